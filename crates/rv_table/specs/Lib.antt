@@ -1,0 +1,4 @@
+pub mod Accesses
+pub mod Actions
+pub mod Arithmetic
+pub mod Operations
