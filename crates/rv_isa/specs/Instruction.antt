@@ -5,6 +5,7 @@ use Rattle.avf_base.specs.declared.end.End.{End}
 use Rattle.avf_base.specs.declared.end.End.TheVariants.{Exit, Trap}
 use Rattle.rv_table.specs.Accesses.{loaded, stored}
 use Rattle.rv_table.specs.Actions.{action, next_address, with_counter, is_clocked}
+use Rattle.rv_table.specs.Effects.{byte_put, written_register}
 use Rattle.rv_table.specs.Words.{decode}
 use Rattle.rv_table.specs.declared.op.Op.{Op}
 use Rattle.rv_table.specs.declared.action.Action.{Action}
@@ -33,13 +34,7 @@ reg registers r = if r == 0 then 0 else registers r
 abbrev pub put_reg : ℕ → ℕ → (ℕ → ℕ) → ℕ → ℕ
 put_reg rd value registers = if rd == 0 then registers else (λ r. if r == rd then value else registers r)
 
--- the register that an action writes, or 0
-abbrev pub written_register : Action → ℕ
-written_register (Writes rd value) = rd
-written_register (Loads kind rd place) = rd
-written_register _ = 0
-
--- The value that it writes there. A load outside RAM gives 0 and a store there is dropped: an instruction traps before
+-- The value that an action writes into its register. A load outside RAM gives 0 and a store there is dropped: an instruction traps before
 -- that, but a struck latch can hold such an access.
 abbrev pub given : LoadedImage → Action → (ℕ → ℕ) → ℕ
 given image (Writes rd value) memory = value
@@ -51,11 +46,7 @@ memory_after image (Stores kind place value) memory =
     if word_in_ram image (place / 4) then stored kind place value memory else memory
 memory_after image _ memory = memory
 
--- the byte that it puts
-abbrev pub byte_put : Action → Option ℕ
-byte_put (Puts value) = Some (value % 2 ^ 8)
-byte_put _ = None
-
+-- how it ends the run
 abbrev pub end_of : Action → Option End
 end_of (Exits value) = Some (Exit (value % 2 ^ 8))
 end_of (Traps cause) = Some (Trap cause)

@@ -1,4 +1,5 @@
 pub mod Accesses
 pub mod Actions
 pub mod Arithmetic
+pub mod Effects
 pub mod Operations
