@@ -3,3 +3,4 @@ pub mod Actions
 pub mod Arithmetic
 pub mod Effects
 pub mod Operations
+pub mod Words
