@@ -3,6 +3,7 @@ pub mod Codes
 pub mod Judged
 pub mod Lanes
 pub mod Loads
+pub mod Rows
 pub mod Signed
 pub mod Stores
 pub mod WordTable

@@ -1,5 +1,5 @@
 -- The word table read in two steps, as the code does: first the code of a word, then the fields of the code's form.
-use Rattle.std.specs.Prelude.{ℕ, ◌/◌, ◌^◌, ◌==◌, ◌&&◌, Bool, List, [], ◌∷◌, if◌then◌else◌}
+use Rattle.std.specs.Prelude.{ℕ, ◌/◌, ◌^◌, ◌==◌, ◌&&◌, Bool, true, false, List, [], ◌∷◌, if◌then◌else◌}
 use Rattle.rv_table.specs.declared.form.Form.{Form}
 use Rattle.rv_table.specs.declared.form.Form.TheVariants.{NoFields}
 use Rattle.rv_table.specs.Words.{Pattern, Opcode, Funct3, Funct7, Word, WordButRd, Row, rows, matches, opcode_of}
@@ -19,6 +19,14 @@ form_in (r ∷ rs) code = if code == r.code then r.form else form_in rs code
 
 unfoldable pub form_of : ℕ → Form
 form_of code = form_in rows code
+
+-- whether a code has a row
+abbrev pub has_row_in : List Row → ℕ → Bool
+has_row_in [] code = false
+has_row_in (r ∷ rs) code = if code == r.code then true else has_row_in rs code
+
+unfoldable pub has_row : ℕ → Bool
+has_row code = has_row_in rows code
 
 -- the same by the fields of a word, for the cases of an opcode
 abbrev pub matches_by : Pattern → ℕ → ℕ → ℕ → ℕ → Bool

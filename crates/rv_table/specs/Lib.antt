@@ -4,4 +4,5 @@ pub mod Arithmetic
 pub mod Codes
 pub mod Effects
 pub mod Operations
+pub mod WellFormed
 pub mod Words
