@@ -19,7 +19,7 @@ pub use access::{load_value, store_word};
 pub use action::{Access, Action, asked, is_clocked, is_counter, next_address, with_counter};
 pub use arithmetic::{alu, holds};
 pub use decoding::decode;
-pub use encoding::{has_row, well_formed};
+pub use encoding::{encode, has_row, well_formed};
 pub use execution::{Computed, compute};
 pub use form::{Form, form_of};
 pub use op::Op;
