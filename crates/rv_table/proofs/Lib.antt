@@ -9,5 +9,6 @@ pub mod Lawful
 pub mod Loads
 pub mod Rows
 pub mod Signed
+pub mod Spelled
 pub mod Stores
 pub mod WordTable

@@ -14,6 +14,7 @@ mod execution;
 mod form;
 mod op;
 mod operation;
+mod spelling;
 
 pub use access::{load_value, store_word};
 pub use action::{Access, Action, asked, is_clocked, is_counter, next_address, with_counter};
@@ -26,3 +27,4 @@ pub use op::Op;
 pub use operation::{
     AluKind, BranchKind, CounterKind, LoadKind, Operation, StoreKind, operation_of,
 };
+pub use spelling::{OutOfMemory, text};
