@@ -5,3 +5,4 @@ pub mod Overlap
 pub mod Neighbours
 pub mod Lowest
 pub mod Bytes
+pub mod Images
