@@ -1,7 +1,7 @@
 -- The image of segments doesn't depend on their order, and neither does the reason to refuse it.
-use Rattle.std.proofs.Common.{◌≡◌, ℕ, zero, suc, ◌+◌, ◌-◌, ◌*◌, ◌/◌, ◌%◌, ◌^◌, ◌<◌, ◌≤◌, Bool, true, false, not, cond, ◌&&◌, ◌||◌, leb, eqb, List, [], ◌∷◌, length, map, get_or, Option, Some, None, refl, ap, sym, ◌∙◌, arith}
+use Rattle.std.proofs.Common.{◌≡◌, ℕ, ◌+◌, Bool, true, false, cond, List, map, Option, Some, None, refl, ap, sym, ◌∙◌}
 use Rattle.std.proofs.Math.Path.{fun_ext}
-use Rattle.std.specs.List.{list_any, range_with_len}
+use Rattle.std.specs.List.{range_with_len}
 use Rattle.std.specs.List.Sorted.{IsPermutation}
 use Rattle.std.proofs.lemmas.Bool.{or_parts}
 use Rattle.std.proofs.lemmas.List.Sorted.{length_permutation, list_any-IsPermutation}
@@ -23,7 +23,7 @@ made_of base size bytes flags entry = record {
   base = base;
   ram = map bytes (range_with_len base size);
   code = map flags (range_with_len base size);
-  entry = entry
+  entry = entry;
 }
 
 pub image_in-IsPermutation : (xs ys : List LoadSegment) (entry size : ℕ) → IsPermutation xs ys → some_overlap xs ≡ false → image_in xs entry size ≡ image_in ys entry size

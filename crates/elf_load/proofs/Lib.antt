@@ -6,3 +6,6 @@ pub mod Neighbours
 pub mod Lowest
 pub mod Bytes
 pub mod Images
+pub mod Entry
+pub mod Lent
+pub mod Refusing

@@ -3,13 +3,12 @@ ghost use Rattle.std.specs.Prelude.{◌≡◌};
 ghost use Rattle.elf_load.specs.Answers.{LendsSegments};
 ghost use Rattle.elf_load.specs.Layout.{IsRamSize};
 
-use std::alloc::Global;
-
 use crate::error::LoadError;
 use crate::headers::{file_refusal, word_at};
 use crate::layout::{layout_refusal, put_in_order};
 use crate::segment::Segment;
 use crate::walk::walk;
+use std::alloc::Global;
 
 /// The loadable segments of an ELF32 file that have bytes in memory, in order of address. Each is a slice of the file,
 /// and they are disjoint. `ram` is the size of RAM in bytes.
