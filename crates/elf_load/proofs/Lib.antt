@@ -9,3 +9,4 @@ pub mod Images
 pub mod Entry
 pub mod Lent
 pub mod Refusing
+pub mod Filling

@@ -2,6 +2,7 @@
 #![tactic(auto)]
 
 pub mod error;
+mod fill;
 mod headers;
 pub mod image;
 mod layout;

@@ -1,0 +1,6 @@
+use Rattle.std.proofs.Common.{length}
+use Rattle.elf_load.proofs.Filling.{HasSegments}
+use Rattle.elf_load.proofs.fill.put_segments.Given as goal
+
+abbrev pub invariant-loop-segment : goal.invariant-loop-segment
+invariant-loop-segment l = HasSegments l.segments l.segment-index l.base (length l.initial.ram) l.ram
