@@ -1,7 +1,7 @@
 -- RAM while the segments are put into it, one after the other.
 use Rattle.std.proofs.Common.{◌≡◌, ℕ, zero, suc, ◌+◌, ◌-◌, ◌<◌, ◌≤◌, Bool, true, false, cond, ◌&&◌, leb, ltb, List, [], ◌∷◌, length, map, get_or, take, replicate, slice_index, refl, ap, sym, subst, ◌∙◌, add-one, arith, inl, inr}
 use Rattle.std.specs.List.{list_any, sum_by, range_with_len, All, AllPairs}
-use Rattle.std.proofs.lemmas.Bool.{cases_Bool, and_parts, leb-true, cond-true, cond-false}
+use Rattle.std.proofs.lemmas.Bool.{cases_Bool, cases_lt, and_parts, leb-true, cond-true, cond-false}
 use Rattle.std.proofs.lemmas.Bool.Decides.{nat_tests}
 use Rattle.std.proofs.lemmas.List.{get_or-map, length-map, ext_get_or, get_or-replicate, get_or_past, take_all}
 use Rattle.std.proofs.lemmas.List.Folds.{list_any_more}
@@ -31,6 +31,14 @@ HasSegments-none xs base ram z = record {
   long = refl;
   each = λ k h. ap (λ (m : List ℕ). get_or m k 0) z ∙ get_or-replicate (length ram) k 0 0 h;
 }
+
+pub zeros-below : (ram : List ℕ) → ram ≡ replicate (length ram) 0 → (k : ℕ) → slice_index ram k < 256
+zeros-below ram z k =
+    let same : get_or ram k 0 ≡ get_or (replicate (length ram) 0) k 0 = ap (λ (m : List ℕ). get_or m k 0) z in
+    elim (cases_lt k (length ram)) [
+      | inl less ↦ omega (arith, same, get_or-replicate {A = ℕ} (length ram) k 0 0 less)
+      | inr past ↦ omega (arith, get_or_past {X = ℕ} ram k 0 past)
+    ]
 
 pub HasCode-none : (xs : List Segment) (base : ℕ) (code : List Bool) → code ≡ replicate (length code) false → HasCode xs 0 base (length code) code
 HasCode-none xs base code z = record {

@@ -10,3 +10,5 @@ pub mod Entry
 pub mod Lent
 pub mod Refusing
 pub mod Filling
+pub mod Accepted
+pub mod Loaded

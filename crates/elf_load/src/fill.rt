@@ -1,5 +1,5 @@
 //! Fills RAM with the segments.
-ghost use Rattle.std.specs.Prelude.{◌≡◌, ℕ, ◌+◌, ◌-◌, ◌≤◌, Bool, false, IfOk, if◌then◌else◌, length, map, replicate};
+ghost use Rattle.std.specs.Prelude.{◌≡◌, ℕ, ◌+◌, ◌-◌, ◌<◌, ◌≤◌, Bool, false, IfOk, if◌then◌else◌, length, map, replicate, slice_index};
 ghost use Rattle.std.specs.List.{range_with_len};
 ghost use Rattle.elf_load.specs.Answers.{lent};
 ghost use Rattle.elf_load.specs.Filling.{HasBytes, HasFlags, FitRam};
@@ -44,7 +44,8 @@ fn set_flags(code: &mut [bool], at: usize, count: usize)
 fn put_segments(ram: &mut [u8], segments: &[Segment], base: u32)
     requires fit { FitRam (map lent segments.now) base (length ram.old) }
     requires zero { ram.old ≡ replicate (length ram.old) 0 }
-    ensures { ram.new ≡ map (byte_in (map lent segments.now)) (range_with_len base (length ram.old)) }
+    ensures ram { ram.new ≡ map (byte_in (map lent segments.now)) (range_with_len base (length ram.old)) }
+    ensures bytes { (k : ℕ) → slice_index ram.new k < 256 }
 {
     for segment in segments {
         put_bytes(ram, (segment.vaddr - base) as usize, segment.bytes);
@@ -59,7 +60,8 @@ pub fn ram_of(
     size: u32,
 ) -> Result<Vec<u8>, AllocError>
     requires { FitRam (map lent segments.now) base size }
-    ensures { IfOk result (λ v. v.items ≡ map (byte_in (map lent segments.now)) (range_with_len base size)) }
+    ensures ram { IfOk result (λ v. v.items ≡ map (byte_in (map lent segments.now)) (range_with_len base size)) }
+    ensures bytes { IfOk result (λ v. (k : ℕ) → slice_index v.items k < 256) }
 {
     let mut ram = zero_bytes(alloc, size as usize)?;
     put_segments(&mut ram, segments, base);

@@ -1,5 +1,5 @@
 use Rattle.std.proofs.Common.{refl, arith}
-use Rattle.elf_load.proofs.Filling.{FitRam-above, FitRam-below, FitRam-bytes, HasSegments-none, HasSegments-more, HasSegments-all}
+use Rattle.elf_load.proofs.Filling.{FitRam-above, FitRam-below, FitRam-bytes, HasSegments-none, zeros-below, HasSegments-more, HasSegments-all}
 use Rattle.elf_load.proofs.Lent.{no_segment}
 use Rattle.elf_load.proofs.fill.put_segments.Goals as goal
 
@@ -14,11 +14,16 @@ put_bytes-requires c =
     omega (arith, above, below, bytes)
 
 pub loop-segment-init : goal.loop-segment-init
-loop-segment-init c = HasSegments-none c.args.segments.now c.args.base _ c.requires.zero
+loop-segment-init c = record {
+  has = HasSegments-none c.args.segments.now c.args.base _ c.requires.zero;
+  bytes = zeros-below c.args.ram.now c.requires.zero;
+}
 
 pub loop-segment-preserved : goal.loop-segment-preserved
-loop-segment-preserved c =
-    HasSegments-more c.args.segments.now c.loop-segment.segment-index c.args.base _ _ no_segment _ _ c.requires.fit c.loop-segment-test.true refl c.loop-segment.invariant c.put_bytes.ensures
+loop-segment-preserved c = record {
+  has = HasSegments-more c.args.segments.now c.loop-segment.segment-index c.args.base _ _ no_segment _ _ c.requires.fit c.loop-segment-test.true refl c.loop-segment.invariant.has c.put_bytes.ensures;
+  bytes = λ k. omega (arith, c.type_inv.ram k);
+}
 
-pub returns : goal.returns
-returns c = HasSegments-all c.args.segments.now c.loop-segment.segment-index c.args.base _ _ c.requires.fit c.loop-segment-test.false c.loop-segment.invariant
+pub returns-clause-ram : goal.returns-clause-ram
+returns-clause-ram c = HasSegments-all c.args.segments.now c.loop-segment.segment-index c.args.base _ _ c.requires.fit c.loop-segment-test.false c.loop-segment.invariant.has

@@ -3,7 +3,7 @@ use Rattle.elf_load.specs.Answers.{lent}
 use Rattle.elf_load.specs.Refusal.{file_refusal, layout_refusal}
 use Rattle.elf_load.proofs.FileHeader.{accepted-long}
 use Rattle.elf_load.proofs.Refusing.{refused_in_order, accepted-AreSegments, refused_by_file, refused_by_headers, headers_refusal-interpreter, headers_refusal-range, found-IsPermutation, sorted-AreInOrder}
-use Rattle.elf_load.proofs.load.segments.Goals as goal
+use Rattle.elf_load.proofs.loader.segments.Goals as goal
 
 pub returns-in-Some : goal.returns-in-Some
 returns-in-Some c =
