@@ -5,10 +5,42 @@ ghost use Rattle.elf_load.specs.Refusal as refusal;
 
 use byteorder::{ByteOrder, LittleEndian};
 
+/// The sizes of the file header and of a program header in bytes.
+const FILE_HEADER: usize = 52;
+
+pub const PROGRAM_HEADER: usize = 32;
+
+/// The offsets in the file header.
+const TYPE: usize = 16;
+
+const MACHINE: usize = 18;
+
+pub const ENTRY: usize = 24;
+
+pub const HEADERS_OFFSET: usize = 28;
+
+const FLAGS: usize = 36;
+
+const FILE_HEADER_SIZE: usize = 40;
+
+const PROGRAM_HEADER_SIZE: usize = 42;
+
+pub const HEADERS_COUNT: usize = 44;
+
+/// The type of an executable file (`ET_EXEC`) and the machine RISC-V (`EM_RISCV`).
+const EXECUTABLE: u16 = 2;
+
+const RISC_V: u16 = 243;
+
+/// The types of program header that are looked at.
+pub const LOADABLE: u32 = 1;
+
+pub const INTERPRETER: u32 = 3;
+
 /// A program header, without its physical address and its alignment.
 #[derive(Clone, Copy)]
 pub struct ProgramHeader {
-    /// 1 for a loadable segment, 3 for an interpreter's name.
+    /// `LOADABLE`, `INTERPRETER` or another type.
     pub kind: u32,
     /// The offset in the file of the segment's first byte.
     pub offset: u32,
@@ -80,7 +112,8 @@ fn has_other_sizes(file: &[u8]) -> bool
     requires { 52 ≤ length file.now }
     ensures { result ≡ refusal.has_other_sizes file.now }
 {
-    !(half_at(file, 40) == 52 && half_at(file, 42) == 32)
+    !(half_at(file, FILE_HEADER_SIZE) == FILE_HEADER as u16
+        && half_at(file, PROGRAM_HEADER_SIZE) == PROGRAM_HEADER as u16)
 }
 
 /// Whether the program headers end past the file.
@@ -89,7 +122,9 @@ fn lacks_headers(file: &[u8]) -> bool
     requires { 52 ≤ length file.now }
     ensures { result ≡ refusal.lacks_headers file.now }
 {
-    file.len() < word_at(file, 28) as usize + 32 * half_at(file, 44) as usize
+    file.len()
+        < word_at(file, HEADERS_OFFSET) as usize
+            + PROGRAM_HEADER * half_at(file, HEADERS_COUNT) as usize
 }
 
 /// The first of the reasons 1 to 8, which concern the file header, that stands.
@@ -97,17 +132,17 @@ fn lacks_headers(file: &[u8]) -> bool
 pub fn file_refusal(file: &[u8]) -> Option<u8>
     ensures { result ≡ refusal.file_refusal file.now }
 {
-    if file.len() < 52 {
+    if file.len() < FILE_HEADER {
         Some(1)
     } else if lacks_magic(file) {
         Some(2)
     } else if has_other_class(file) {
         Some(3)
-    } else if half_at(file, 16) != 2 {
+    } else if half_at(file, TYPE) != EXECUTABLE {
         Some(4)
-    } else if half_at(file, 18) != 243 {
+    } else if half_at(file, MACHINE) != RISC_V {
         Some(5)
-    } else if word_at(file, 36) % 2 == 1 {
+    } else if word_at(file, FLAGS) % 2 == 1 {
         Some(6)
     } else if has_other_sizes(file) {
         Some(7)

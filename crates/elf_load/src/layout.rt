@@ -9,6 +9,12 @@ ghost use Rattle.elf_load.specs.Refusal as refusal;
 
 use crate::segment::Segment;
 
+/// RAM begins at a multiple of this many bytes.
+const BLOCK: u32 = 65_536;
+
+/// How many byte addresses there are.
+const ADDRESSES: u64 = 0x1_0000_0000;
+
 /// One past the byte address of a segment's last byte.
 fn end(segment: &Segment) -> u64
     ensures { result ≡ segment.now.vaddr + segment.now.memsz }
@@ -30,7 +36,7 @@ pub fn base_address(segments: &[Segment]) -> u32
     requires order { AreInOrder (map lent segments.now) }
     ensures { result ≡ base_of (map lent segments.now) }
 {
-    segments[0].vaddr / 65_536 * 65_536
+    segments[0].vaddr / BLOCK * BLOCK
 }
 
 /// Whether a segment ends above an address.
@@ -52,7 +58,7 @@ fn some_ends_above(segments: &[Segment], limit: u64) -> bool
 fn leaves_ram(segments: &[Segment], limit: u64) -> bool
     ensures { result ≡ (nat_le (2 ^ 32) limit || list_any (λ s. refusal.ends_above limit (lent s)) segments.now) }
 {
-    limit >= 0x1_0000_0000 || some_ends_above(segments, limit)
+    limit >= ADDRESSES || some_ends_above(segments, limit)
 }
 
 /// Whether two of these segments share an address.
