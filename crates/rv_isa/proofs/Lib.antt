@@ -1,2 +1,5 @@
+pub mod Allowed
 pub mod Lists
 pub mod Memory
+pub mod Steps
+pub mod Stores
