@@ -1,5 +1,6 @@
 pub mod Allowed
 pub mod Lists
 pub mod Memory
+pub mod RunSteps
 pub mod Steps
 pub mod Stores

@@ -3,18 +3,18 @@ ghost use Rattle.std.specs.Prelude.{◌≡◌, ℕ, ◌+◌, ◌*◌, ◌<◌, �
 ghost use Rattle.std.specs.Option.{ForSome};
 ghost use Rattle.elf_load.specs.Image.{any_executable, executable, word_in_ram};
 ghost use Rattle.rv_isa.specs.Architecture.{byte_stored, ram_byte};
-ghost use Rattle.rv_isa.specs.Effects.{CanCommit, IsInRam, IsStep, committed, effect_by, effect_of, with_store, with_write, write_of};
-ghost use Rattle.rv_isa.specs.Instruction.{first_clock, later_clocks};
+ghost use Rattle.rv_isa.specs.Effects.{CanCommit, IsInRam, IsStep, committed, effect_by, effect_of, retired_at, with_store, with_write, write_of};
+ghost use Rattle.rv_isa.specs.Instruction.{first_clock, later_clocks, op_at};
 ghost use Rattle.rv_isa.specs.Runs.{reset};
 ghost use Rattle.rv_table.specs.Accesses.{word_at, word_of_bytes};
 ghost use Rattle.rv_table.specs.Actions.{judged};
 
-use crate::Effect;
+use crate::{Effect, Retired};
 use crate::effect::{byte_put, end_of, load_of, store_of, written_register};
 use avf_base::{OutOfMemory, Steps};
 use byteorder::{ByteOrder, LittleEndian};
 use elf_load::Image;
-use rv_table::{Access, Action, Op, asked, is_clocked, load_value, next_address, with_counter};
+use rv_table::{Access, Action, Op, asked, decode, is_clocked, load_value, next_address, with_counter};
 use std::alloc::Global;
 use std::marker::Model;
 use std::sync::ledger::Ledger;
@@ -108,8 +108,20 @@ impl<'i> Arch<'i> {
         }
     }
 
+    /// The operation at the state's address: that of its word in the image as loaded, or FFAULT where that isn't executable.
+    pub fn fetch(&self) -> Op
+        ensures operation { result ≡ op_at self.now.image self.now.pc }
+        ensures rd { result.rd < 32 }
+        ensures rs1 { result.rs1 < 32 }
+        ensures rs2 { result.rs2 < 32 }
+    {
+        match self.image.fetch(self.pc) {
+            Some(word) => decode(word),
+            None => Op { code: 1, rd: 0, rs1: 0, rs2: 0, imm: 0 },
+        }
+    }
+
     /// What an operation does in this state. It counts one in `applies`.
-    #[tactic(auto, unfolding(crate::specs::Effects::effect_of))]
     pub fn effect<L: Ledger>(&self, op: &Op, applies: &mut Steps<L>) -> Effect
         requires rd { op.now.rd < 32 }
         requires rs1 { op.now.rs1 < 32 }
@@ -120,6 +132,15 @@ impl<'i> Arch<'i> {
         ensures ticks { applies.new ≡ applies.old + 1 }
     {
         applies.tick();
+        self.effect_of(op)
+    }
+
+    #[tactic(auto, unfolding(crate::specs::Effects::effect_of))]
+    fn effect_of(&self, op: &Op) -> Effect
+        requires rs1 { op.now.rs1 < 32 }
+        requires rs2 { op.now.rs2 < 32 }
+        ensures { result ≡ effect_of self.now.image op.now (state_of self.now) }
+    {
         let a = self.reg(op.rs1);
         let b = with_counter(op, self.clock(), self.count, self.reg(op.rs2));
         self.effect_by(op, a, b)
@@ -218,6 +239,27 @@ impl<'i> Arch<'i> {
         self.pc = effect.next / 4;
         self.count = self.count.wrapping_add(1);
         self.taken = taken_after(&self.clocks, self.taken, effect.clocked);
+    }
+}
+
+impl<'i> Arch<'i> {
+    ghost use Rattle.rv_isa.specs.Architecture.{state_of};
+
+    /// Performs the instruction at the state's address, and tells it.
+    #[tactic(auto, unfolding(crate::specs::Effects::retired_at))]
+    pub(crate) fn retire<L: Ledger>(&mut self, applies: &mut Steps<L>) -> Retired
+        ensures retired { result ≡ retired_at self.old.image (state_of self.old) }
+        ensures state { state_of self.new ≡ committed result.effect (state_of self.old) }
+        ensures image { self.new.image ≡ self.old.image }
+        ensures ticks { applies.new ≡ applies.old + 1 }
+    {
+        let op = self.fetch();
+        let pc = self.pc();
+        let a = self.reg(op.rs1);
+        let b = self.reg(op.rs2);
+        let effect = self.effect(&op, applies);
+        self.commit(&effect);
+        Retired { pc, op, a, b, effect }
     }
 }
 
