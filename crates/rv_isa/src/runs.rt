@@ -23,6 +23,7 @@ pub fn run_clocked<L: Ledger>(alloc: Global, image: &Image, limit: u32, clocks: 
     ensures answer { IsAnswer image.now clocks.now limit result }
     ensures ticks { MatchResult result (λ trace. applies.new ≡ applies.old + length trace.entries) (λ _. applies.new ≤ applies.old + limit) }
 {
+    image.is_image();
     let mut arch = Arch::clocked(alloc, image, clocks)?;
     let mut entries = Vec::new(alloc);
     let mut output = Vec::new(alloc);
