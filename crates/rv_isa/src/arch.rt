@@ -9,12 +9,14 @@ ghost use Rattle.rv_isa.specs.Runs.{reset};
 ghost use Rattle.rv_table.specs.Accesses.{word_at, word_of_bytes};
 ghost use Rattle.rv_table.specs.Actions.{judged};
 
-use crate::{Effect, Retired};
 use crate::effect::{byte_put, end_of, load_of, store_of, written_register};
+use crate::{Effect, Retired};
 use avf_base::{OutOfMemory, Steps};
 use byteorder::{ByteOrder, LittleEndian};
 use elf_load::Image;
-use rv_table::{Access, Action, Op, asked, decode, is_clocked, load_value, next_address, with_counter};
+use rv_table::{
+    Access, Action, Op, asked, decode, is_clocked, load_value, next_address, with_counter,
+};
 use std::alloc::Global;
 use std::marker::Model;
 use std::sync::ledger::Ledger;
@@ -117,7 +119,13 @@ impl<'i> Arch<'i> {
     {
         match self.image.fetch(self.pc) {
             Some(word) => decode(word),
-            None => Op { code: 1, rd: 0, rs1: 0, rs2: 0, imm: 0 },
+            None => Op {
+                code: 1,
+                rd: 0,
+                rs1: 0,
+                rs2: 0,
+                imm: 0,
+            },
         }
     }
 
@@ -177,7 +185,10 @@ impl<'i> Arch<'i> {
         ensures { result ≡ judged (word_in_ram self.now.image) (executable self.now.image) action }
     {
         match action.access() {
-            Some(access) => action.judged(self.image.word_in_ram(access.place / 4), self.writes_code(&access)),
+            Some(access) => action.judged(
+                self.image.word_in_ram(access.place / 4),
+                self.writes_code(&access),
+            ),
             None => action,
         }
     }
@@ -259,7 +270,13 @@ impl<'i> Arch<'i> {
         let b = self.reg(op.rs2);
         let effect = self.effect(&op, applies);
         self.commit(&effect);
-        Retired { pc, op, a, b, effect }
+        Retired {
+            pc,
+            op,
+            a,
+            b,
+            effect,
+        }
     }
 }
 
@@ -322,5 +339,9 @@ fn taken_after(clocks: &[u32], taken: usize, clocked: bool) -> usize
     ensures values { drop result clocks.now ≡ (if clocked then later_clocks (drop taken clocks.now) else drop taken clocks.now) }
     ensures within { result ≤ length clocks.now }
 {
-    if clocked && taken < clocks.len() { taken + 1 } else { taken }
+    if clocked && taken < clocks.len() {
+        taken + 1
+    } else {
+        taken
+    }
 }

@@ -33,7 +33,11 @@ impl Trace {
         requires traced { ComesFromImage (record { entries = entries.items; output = output.items; end = end }) }
         ensures { result ≡ record { entries = entries.items; output = output.items; end = end } }
     {
-        Trace { entries, output, end }
+        Trace {
+            entries,
+            output,
+            end,
+        }
     }
 
     /// Says that it is the trace of an image. It does nothing.
