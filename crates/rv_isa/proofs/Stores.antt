@@ -17,11 +17,11 @@ use Rattle.rv_isa.specs.Effects.{IsInRam, with_store}
 use Rattle.rv_isa.specs.Instruction.{action_in}
 
 -- a store that is asked for is aligned
-asked_by-aligned : (o : Operation) (op : Op) (pc a b : ℕ) (kind : StoreKind) (x y : ℕ) → asked_by o op pc a b ≡ Stores kind x y → x % store_size kind ≡ 0
+pub asked_by-aligned : (o : Operation) (op : Op) (pc a b : ℕ) (kind : StoreKind) (x y : ℕ) → asked_by o op pc a b ≡ Stores kind x y → x % store_size kind ≡ 0
 unfolding asked_by
 asked_by-aligned o op pc a b kind x y e = grind (arith, nat_tests)
 
-judged-store : (image : LoadedImage) (done : Action) (kind : StoreKind) (x y : ℕ) → judged (word_in_ram image) (executable image) done ≡ Stores kind x y → (done ≡ Stores kind x y) × (word_in_ram image (x / 4) ≡ true)
+pub judged-store : (image : LoadedImage) (done : Action) (kind : StoreKind) (x y : ℕ) → judged (word_in_ram image) (executable image) done ≡ Stores kind x y → (done ≡ Stores kind x y) × (word_in_ram image (x / 4) ≡ true)
 unfolding judged
 judged-store image done kind x y e = grind (arith, nat_tests)
 
