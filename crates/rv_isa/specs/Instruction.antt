@@ -1,5 +1,5 @@
 -- One instruction: what it does to registers, memory, address, instruction count and clock values.
-use Rattle.std.specs.Prelude.{◌≡◌, ℕ, ◌+◌, ◌*◌, ◌/◌, ◌%◌, ◌^◌, ◌<◌, ◌==◌, Bool, true, false, List, [], ◌∷◌, ◌++◌, Option, Some, None, if◌then◌else◌}
+use Rattle.std.specs.Prelude.{ℕ, ◌+◌, ◌/◌, ◌%◌, ◌^◌, ◌==◌, List, [], ◌∷◌, ◌++◌, Option, Some, None, if◌then◌else◌}
 use Rattle.elf_load.specs.Image.{LoadedImage, executable, fetch, word_in_ram}
 use Rattle.avf_base.specs.declared.end.End.{End}
 use Rattle.avf_base.specs.declared.end.End.TheVariants.{Exit, Trap}
@@ -9,7 +9,7 @@ use Rattle.rv_table.specs.Effects.{byte_put, written_register}
 use Rattle.rv_table.specs.Words.{decode}
 use Rattle.rv_table.specs.declared.op.Op.{Op}
 use Rattle.rv_table.specs.declared.action.Action.{Action}
-use Rattle.rv_table.specs.declared.action.Action.TheVariants.{Nothing, Writes, Loads, Stores, Puts, Exits, Traps}
+use Rattle.rv_table.specs.declared.action.Action.TheVariants.{Nothing, Writes, Loads, Stores, Exits, Traps}
 
 -- what a run has done so far: the bytes that it put, and the actions that it completed, in order
 pub record Log : Type 0 where
@@ -18,11 +18,11 @@ pub record Log : Type 0 where
 
 -- A state of the instruction set's run over an image, with what it has done, and its end if that has come.
 pub record State : Type 0 where
-  pub registers : ℕ → ℕ       -- by register, 1 to 31
-  pub memory : ℕ → ℕ          -- by byte address
-  pub pc : ℕ                  -- word address of the next instruction
-  pub count : ℕ               -- instructions so far
-  pub clocks : List ℕ         -- clock values that are left
+  pub registers : ℕ → ℕ  -- by register, 1 to 31
+  pub memory : ℕ → ℕ  -- by byte address
+  pub pc : ℕ  -- word address of the next instruction
+  pub count : ℕ  -- instructions so far, modulo 2^32
+  pub clocks : List ℕ  -- clock values that are left
   pub log : Log
   pub stop : Option End
 
@@ -85,6 +85,10 @@ abbrev pub later_clocks : List ℕ → List ℕ
 later_clocks [] = []
 later_clocks (clock ∷ clocks) = clocks
 
+-- the count after one more instruction; it is a 32-bit counter and wraps
+abbrev pub next_count : ℕ → ℕ
+next_count count = (count + 1) % 2 ^ 32
+
 -- what an operation of an image's program asks for and is allowed
 abbrev pub action_in : LoadedImage → Op → ℕ → ℕ → ℕ → Action
 action_in image op pc a b = action (word_in_ram image) (executable image) op pc a b
@@ -95,7 +99,7 @@ completed image op pc a b before =
     let c = with_counter op (first_clock before.clocks) before.count b in
     record (performed image (action_in image op pc a c) before) {
       pc = next_address op pc a c;
-      count = before.count + 1;
+      count = next_count before.count;
       clocks = if is_clocked op then later_clocks before.clocks else before.clocks;
     }
 
