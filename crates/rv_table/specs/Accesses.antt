@@ -58,3 +58,11 @@ loaded Lhu x memory = half_at x memory
 -- byte p after a store of the low bytes of y at byte address x
 unfoldable pub stored : StoreKind → ℕ → ℕ → (ℕ → ℕ) → ℕ → ℕ
 stored kind x y memory p = if accesses (store_size kind) x p then byte_of y (p % store_size kind) else memory p
+
+-- Of the word that holds byte address x: the lanes that an access of `size` bytes takes, as a mask (bit l is lane l).
+unfoldable pub lane_mask : ℕ → ℕ → ℕ
+lane_mask size x = (2 ^ size - 1) * 2 ^ (x % 4 / size * size)
+
+-- that word with the low bytes of y in the store's lanes and 0 in the others
+unfoldable pub store_word : StoreKind → ℕ → ℕ → ℕ
+store_word kind x y = y % 2 ^ (8 * store_size kind) * 2 ^ (8 * (x % 4 / store_size kind * store_size kind))
