@@ -1,7 +1,11 @@
 // The latch EX/MEM.
-ghost use Rattle.std.specs.Prelude.{◌≡◌};
+ghost use Rattle.std.specs.Prelude.{◌≡◌, ◌<◌};
+ghost use Rattle.rv_table.specs.Effects.{written_register};
+ghost use Rattle.pipe_latch.specs.LatchedActions.{latch_of, trap_number};
+ghost use Rattle.pipe_latch.specs.LatchedActions as spec;
 
 use bit_field::{Struck, bit_at, flip_bit, flip_u8, flip_u32};
+use rv_table::{Action, LoadKind, StoreKind};
 use std::marker::Model;
 
 /// The latch EX/MEM: what execution asks of the memory stage.
@@ -86,6 +90,7 @@ impl Struck for ExMem {
 
 impl ExMem {
     ghost use Rattle.pipe_latch.specs.Latches.{no_executed};
+    ghost use Rattle.pipe_latch.specs.LatchedActions.{action_of};
 
     /// The empty latch: all zero.
     pub fn empty() -> ExMem
@@ -99,5 +104,126 @@ impl ExMem {
             y: 0,
             cause: 0,
         }
+    }
+
+    #[tactic(auto, unfolding(crate::specs::LatchedActions::action_of))]
+    /// What the memory stage does with the latch, whatever it holds.
+    pub fn action(&self) -> Action
+        ensures action { result ≡ action_of self.now }
+        ensures register { written_register result < 32 }
+        ensures cause { trap_number result < 16 }
+    {
+        if !self.valid {
+            return Action::Nothing;
+        }
+        match self.kind {
+            1 => self.loads(LoadKind::Lb),
+            2 => self.loads(LoadKind::Lh),
+            3 => self.loads(LoadKind::Lw),
+            4 => self.loads(LoadKind::Lbu),
+            5 => self.loads(LoadKind::Lhu),
+            6 => self.stores(StoreKind::Sb),
+            7 => self.stores(StoreKind::Sh),
+            8 => self.stores(StoreKind::Sw),
+            9 => Action::Puts(self.x),
+            10 => Action::Exits(self.x),
+            11 => Action::Traps(self.cause),
+            _ => Action::Writes {
+                rd: self.rd,
+                value: self.x,
+            },
+        }
+    }
+
+    fn loads(&self, kind: LoadKind) -> Action
+        ensures { result ≡ Action.Loads kind self.now.rd self.now.x }
+    {
+        Action::Loads {
+            kind,
+            rd: self.rd,
+            place: self.x,
+        }
+    }
+
+    fn stores(&self, kind: StoreKind) -> Action
+        ensures { result ≡ Action.Stores kind self.now.x self.now.y }
+    {
+        Action::Stores {
+            kind,
+            place: self.x,
+            value: self.y,
+        }
+    }
+}
+
+#[tactic(auto, unfolding(crate::specs::LatchedActions::latch_of))]
+/// The latch that execution writes for an action. All fields that the action doesn't name are 0.
+pub fn latch_for(action: &Action) -> ExMem
+    requires register { written_register action.now < 32 }
+    requires cause { trap_number action.now < 16 }
+    ensures { result ≡ latch_of action.now }
+{
+    let written = ExMem {
+        valid: true,
+        ..ExMem::empty()
+    };
+    match *action {
+        Action::Nothing => ExMem::empty(),
+        Action::Writes { rd, value } => ExMem {
+            rd,
+            x: value,
+            ..written
+        },
+        Action::Loads { kind, rd, place } => ExMem {
+            kind: kind_of_load(kind),
+            rd,
+            x: place,
+            ..written
+        },
+        Action::Stores { kind, place, value } => ExMem {
+            kind: kind_of_store(kind),
+            x: place,
+            y: value,
+            ..written
+        },
+        Action::Puts(value) => ExMem {
+            kind: 9,
+            x: value,
+            ..written
+        },
+        Action::Exits(value) => ExMem {
+            kind: 10,
+            x: value,
+            ..written
+        },
+        Action::Traps(cause) => ExMem {
+            kind: 11,
+            cause,
+            ..written
+        },
+    }
+}
+
+fn kind_of_load(kind: LoadKind) -> u8
+    ensures kind { result ≡ spec.kind_of_load kind }
+    ensures range { result < 32 }
+{
+    match kind {
+        LoadKind::Lb => 1,
+        LoadKind::Lh => 2,
+        LoadKind::Lw => 3,
+        LoadKind::Lbu => 4,
+        LoadKind::Lhu => 5,
+    }
+}
+
+fn kind_of_store(kind: StoreKind) -> u8
+    ensures kind { result ≡ spec.kind_of_store kind }
+    ensures range { result < 32 }
+{
+    match kind {
+        StoreKind::Sb => 6,
+        StoreKind::Sh => 7,
+        StoreKind::Sw => 8,
     }
 }
