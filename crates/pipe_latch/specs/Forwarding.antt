@@ -27,3 +27,12 @@ late w rs held = if rs == 0 then held else (if rs == w.rd then w.value else held
 -- EX/MEM holds a load of register rs, which isn't register 0: the kinds 1 to 5 are the loads.
 abbrev pub IsAwaited : ExecutedLatch → ℕ → Type 0
 IsAwaited m rs = (rs ≢ 0) × IsTrue m.valid × (1 ≤ m.kind) × (m.kind ≤ 5) × (m.rd ≡ rs)
+
+-- an operand's value, with what completing M writes in place of one that must be waited for
+abbrev pub settled : Forwarded → ℕ → ℕ
+settled (Value value) written = value
+settled Wait written = written
+
+-- this value is what completing M writes: its result, or what a load gets from memory
+abbrev pub IsWrittenBy : Action → ℕ → Type 0
+IsWrittenBy m written = is_load m ≡ false → written ≡ result_of m
