@@ -13,3 +13,6 @@ pub use ex_mem::{ExMem, latch_for};
 pub use forward::{Forwarded, late, operand};
 pub use id_ex::IdEx;
 pub use mem_wb::MemWb;
+
+#[cfg(test)]
+mod tests;
