@@ -1,5 +1,5 @@
 -- What contracts see of the shelves and sinks in memory.
-use Rattle.std.specs.Prelude.{ℕ, ◌+◌, ◌-◌, ◌^◌, List, [], ◌∷◌, Bool, Option, None, Some, min, if◌then◌else◌, bytes_eq, unwrap_or}
+use Rattle.std.specs.Prelude.{ℕ, ◌+◌, ◌-◌, ◌^◌, List, [], ◌∷◌, ◌++◌, length, take, Bool, ◌&&◌, Option, None, Some, min, if◌then◌else◌, bytes_eq, nat_le, unwrap_or}
 
 -- a name with its bytes
 pub record Entry : Type 0 where
@@ -42,6 +42,22 @@ pub record PlainTaken : Type 0 where
 abbrev pub plainly_taken : PlainTaken → Option (List ℕ)
 plainly_taken sink = if sink.whole then Some sink.kept else None
 
--- the number of the next call; one that is 2 ^ 32 - 1 stays
+-- the same after a write of this piece
+abbrev pub plainly_written : PlainTaken → List ℕ → PlainTaken
+plainly_written sink piece = record {
+    kept = sink.kept ++ take (sink.room - length sink.kept) piece;
+    room = sink.room;
+    whole = sink.whole && nat_le (length piece) (sink.room - length sink.kept);
+  }
+
+-- the number of the next call; a number of 2 ^ 32 - 1 stays
 abbrev pub next_call : ℕ → ℕ
 next_call calls = min (calls + 1) (2 ^ 32 - 1)
+
+-- the count of faults after one more; a count of 2 ^ 64 - 1 stays
+abbrev pub next_fault : ℕ → ℕ
+next_fault faults = min (faults + 1) (2 ^ 64 - 1)
+
+-- what a real file holds and a real writer took: it is told nowhere
+abbrev pub untold : Option (List ℕ)
+untold = None

@@ -1,6 +1,9 @@
 // Real files. Their contents are told nowhere.
-ghost use Rattle.std.specs.Prelude.{◌≡◌, ℕ, None};
+ghost use Rattle.std.specs.Prelude.{◌≡◌, List, ℕ, IsOk, OnErr};
 ghost use Rattle.std.specs.Io.{ReadsAtMost};
+ghost use Rattle.avf_base.specs.Causes.{HasCause};
+ghost use Rattle.avf_base.specs.Moves.{Reads};
+ghost use Rattle.avf_base.specs.States.{next_fault, untold};
 
 use crate::{Failed, Shelf};
 use std::fs::File;
@@ -40,11 +43,18 @@ impl<R: Files> FileShelf<R> {
 }
 
 impl<R: Files> Shelf for FileShelf<R> {
-    ghost holds = { λ s name. None };
+    ghost holds = { λ s name. untold };
 
     ghost faults = { λ s. s };
 
-    fn read_at(&mut self, name: &str, at: u64, buf: &mut [u8]) -> Result<usize, Failed> {
+    fn read_at(&mut self, name: &str, at: u64, buf: &mut [u8]) -> Result<usize, Failed>
+        ensures bound { ReadsAtMost result buf.new }
+        ensures bytes { Reads untold at result buf.new }
+        ensures keeps { (n : List ℕ) → untold ≡ untold }
+        ensures cause { HasCause self.old self.new result }
+        ensures ok { IsOk result → self.new ≡ self.old }
+        ensures err { OnErr result (self.new ≡ next_fault self.old) }
+    {
         match read_file_at(&self.rt, name, at, buf) {
             Ok(n) => Ok(n),
             Err(_) => {

@@ -4,7 +4,7 @@ ghost use Rattle.std.specs.Io.{ReadsAtMost};
 ghost use Rattle.avf_base.specs.Causes.{HasCause};
 ghost use Rattle.avf_base.specs.Moves.{Reads};
 ghost use Rattle.avf_base.specs.Entries.{entries_of};
-ghost use Rattle.avf_base.specs.States.{MemFiles, holding, next_call};
+ghost use Rattle.avf_base.specs.States.{MemFiles, holding, next_call, next_fault};
 
 use crate::held::{Held, copy_at, find};
 use crate::{Failed, OutOfMemory, Shelf};
@@ -78,10 +78,10 @@ impl Shelf for MemShelf {
         ensures keeps { (n : List ℕ) → holding self.new.entries n ≡ holding self.old.entries n }
         ensures cause { HasCause self.old.faults self.new.faults result }
         // It fails exactly where its number is on the list or there is no such name, and else gives all that fits.
-        ensures number { self.new.calls ≡ next_call self.old.calls }
-        ensures fails { IsErr result ↔ (Contains self.old.fails self.new.calls ⊎ IsNone (holding self.old.entries name.now)) }
+        ensures fails { IsErr result ↔ (Contains self.old.fails (next_call self.old.calls) ⊎ IsNone (holding self.old.entries name.now)) }
         ensures all { IfSome (holding self.old.entries name.now) (λ contents. IfOk result (λ n. n ≡ min (length buf.old) (length contents - at))) }
-        ensures rest { (self.new.entries ≡ self.old.entries) × (self.new.fails ≡ self.old.fails) }
+        ensures ok { IfOk result (λ n. self.new ≡ record self.old { calls = next_call self.old.calls }) }
+        ensures err { OnErr result (self.new ≡ record self.old { calls = next_call self.old.calls; faults = next_fault self.old.faults }) }
     {
         self.calls = self.calls.saturating_add(1);
         match found(&self.files, name, &self.fails, self.calls) {

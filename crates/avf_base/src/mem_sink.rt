@@ -1,9 +1,9 @@
 // A sink in memory, whose calls fail by number.
-ghost use Rattle.std.specs.Prelude.{◌≡◌, ◌-◌, ◌<◌, ◌≤◌, ◌↔◌, ◌⊎◌, [], Contains, length, take, min, IfOk, OnErr, IsErr, MatchOption, Some, vec_capacity};
+ghost use Rattle.std.specs.Prelude.{◌≡◌, ◌-◌, ◌<◌, ◌≤◌, ◌↔◌, ◌⊎◌, ◌++◌, [], Contains, length, take, min, IfOk, OnErr, IsErr, MatchOption, Some, vec_capacity};
 ghost use Rattle.std.specs.Io.{WritesAtMost};
 ghost use Rattle.avf_base.specs.Causes.{HasCause};
 ghost use Rattle.avf_base.specs.Moves.{Grows};
-ghost use Rattle.avf_base.specs.States.{MemTaken, next_call};
+ghost use Rattle.avf_base.specs.States.{MemTaken, next_call, next_fault};
 
 use crate::{Failed, OutOfMemory, Sink};
 use std::alloc::Global;
@@ -78,10 +78,10 @@ impl Sink for MemSink {
         ensures kept { OnErr result (Some self.new.kept ≡ Some self.old.kept) }
         ensures cause { HasCause self.old.faults self.new.faults result }
         // Of a piece that isn't empty: it fails exactly where its number is on the list or no room is left.
-        ensures number { self.new.calls ≡ next_call self.old.calls }
-        ensures fails { 0 < length piece.now → (IsErr result ↔ (Contains self.old.fails self.new.calls ⊎ (self.old.room ≤ length self.old.kept))) }
+        ensures fails { 0 < length piece.now → (IsErr result ↔ (Contains self.old.fails (next_call self.old.calls) ⊎ (self.old.room ≤ length self.old.kept))) }
         ensures amount { IfOk result (λ n. n ≡ min (min (length piece.now) (self.old.room - length self.old.kept)) self.old.most) }
-        ensures rest { (self.new.room ≡ self.old.room) × (self.new.most ≡ self.old.most) × (self.new.fails ≡ self.old.fails) }
+        ensures ok { IfOk result (λ n. self.new ≡ record self.old { kept = self.old.kept ++ take n piece.now; calls = next_call self.old.calls }) }
+        ensures err { OnErr result (self.new ≡ record self.old { calls = next_call self.old.calls; faults = next_fault self.old.faults }) }
     {
         self.calls = self.calls.saturating_add(1);
         let left = (self.room as usize).saturating_sub(self.kept.len());

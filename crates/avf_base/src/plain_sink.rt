@@ -1,9 +1,9 @@
 // A sink in memory that never fails.
-ghost use Rattle.std.specs.Prelude.{◌≡◌, ◌<◌, ◌≤◌, [], length, take, Ok, IfOk, OnErr, true};
+ghost use Rattle.std.specs.Prelude.{◌≡◌, ◌<◌, ◌≤◌, [], length, take, Ok, IfOk, OnErr, true, vec_capacity};
 ghost use Rattle.std.specs.Io.{WritesAtMost};
 ghost use Rattle.avf_base.specs.Causes.{HasCause};
 ghost use Rattle.avf_base.specs.Moves.{Grows};
-ghost use Rattle.avf_base.specs.States.{PlainTaken, plainly_taken};
+ghost use Rattle.avf_base.specs.States.{PlainTaken, plainly_taken, plainly_written};
 
 use crate::{Failed, OutOfMemory, Sink};
 use std::alloc::Global;
@@ -21,6 +21,8 @@ impl Model for PlainSink {
     ghost Value = { PlainTaken };
 
     ghost view = { λ s. record { kept = s.kept.items; room = s.room; whole = s.whole } };
+
+    ghost invariant = { λ s. s.room ≤ vec_capacity s.kept };
 }
 
 impl PlainSink {
@@ -56,13 +58,13 @@ impl Sink for PlainSink {
         ensures cause { HasCause 0 0 result }
         // It takes every byte.
         ensures all { result ≡ Ok (length piece.now) }
-        ensures room { self.new.room ≡ self.old.room }
+        ensures written { self.new ≡ plainly_written self.old piece.now }
     {
         let left = (self.room as usize).saturating_sub(self.kept.len());
         let n = piece.len().min(left);
         let (front, _) = piece.split_at(n);
-        let kept = self.kept.extend_from_slice(front).is_ok();
-        self.whole = self.whole && kept && n == piece.len();
+        self.kept.extend_from_slice(front).unwrap();
+        self.whole = self.whole && piece.len() <= left;
         Ok(piece.len())
     }
 }

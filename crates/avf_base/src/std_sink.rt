@@ -1,6 +1,9 @@
 // A writer of std. What it took is told nowhere.
-ghost use Rattle.std.specs.Prelude.{◌≡◌, ℕ, None};
+ghost use Rattle.std.specs.Prelude.{◌≡◌, ◌<◌, ℕ, length, take, IfOk, IsOk, OnErr};
 ghost use Rattle.std.specs.Io.{WritesAtMost};
+ghost use Rattle.avf_base.specs.Causes.{HasCause};
+ghost use Rattle.avf_base.specs.Moves.{Grows};
+ghost use Rattle.avf_base.specs.States.{next_fault, untold};
 
 use crate::{Failed, Sink};
 use std::io;
@@ -38,11 +41,19 @@ impl<W: Write + Drop> StdSink<W> {
 }
 
 impl<W: Write + Drop> Sink for StdSink<W> {
-    ghost taken = { λ s. None };
+    ghost taken = { λ s. untold };
 
     ghost faults = { λ s. s };
 
-    fn write(&mut self, piece: &[u8]) -> Result<usize, Failed> {
+    fn write(&mut self, piece: &[u8]) -> Result<usize, Failed>
+        ensures bound { WritesAtMost result piece.now }
+        ensures some { IfOk result (λ n. 0 < length piece.now → 0 < n) }
+        ensures taken { IfOk result (λ n. Grows untold untold (take n piece.now)) }
+        ensures kept { OnErr result (untold ≡ untold) }
+        ensures cause { HasCause self.old self.new result }
+        ensures ok { IsOk result → self.new ≡ self.old }
+        ensures err { OnErr result (self.new ≡ next_fault self.old) }
+    {
         match write_flushed(&mut self.writer, piece) {
             Ok(n) if n > 0 || piece.is_empty() => Ok(n),
             _ => {
