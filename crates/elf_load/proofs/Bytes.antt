@@ -1,6 +1,6 @@
 -- What segments that share no address put at an address doesn't depend on their order.
-use Rattle.std.proofs.Common.{◌≡◌, ℕ, zero, suc, ◌+◌, ◌-◌, ◌<◌, ◌≤◌, Bool, true, false, cond, ◌&&◌, ◌||◌, List, [], ◌∷◌, length, get_or, slice_index, take, refl, ap, sym, ◌∙◌, arith}
-use Rattle.std.specs.List.{list_any, sum_by, AllPairs}
+use Rattle.std.proofs.Common.{◌≡◌, ℕ, ◌+◌, ◌-◌, Bool, true, false, cond, ◌&&◌, List, [], ◌∷◌, slice_index, refl, sym, ◌∙◌, arith}
+use Rattle.std.specs.List.{list_any, sum_by}
 use Rattle.std.specs.List.Sorted.{IsPermutation}
 use Rattle.std.proofs.lemmas.Bool.{or_parts}
 use Rattle.std.proofs.lemmas.Bool.Decides.{nat_tests}

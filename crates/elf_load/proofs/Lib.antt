@@ -5,3 +5,10 @@ pub mod Overlap
 pub mod Neighbours
 pub mod Lowest
 pub mod Bytes
+pub mod Images
+pub mod Entry
+pub mod Lent
+pub mod Refusing
+pub mod Filling
+pub mod Accepted
+pub mod Loaded

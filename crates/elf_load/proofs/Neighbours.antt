@@ -1,7 +1,7 @@
 -- Segments in order of address overlap only where neighbours do.
-use Rattle.std.proofs.Common.{◌≡◌, ℕ, zero, suc, ◌+◌, ◌<◌, ◌≤◌, Bool, true, false, ◌||◌, List, [], ◌∷◌, length, get_or, refl, subst, sym, arith, inl, inr}
-use Rattle.std.specs.List.{list_any, All, AllPairs, AllAdjacentBelow}
-use Rattle.std.proofs.lemmas.Bool.{cases_lt, or_left, or_right}
+use Rattle.std.proofs.Common.{◌≡◌, ℕ, zero, suc, ◌+◌, ◌<◌, ◌≤◌, Bool, true, false, List, [], ◌∷◌, length, get_or, refl, subst, arith, inl, inr}
+use Rattle.std.specs.List.{list_any, AllPairs, AllAdjacentBelow}
+use Rattle.std.proofs.lemmas.Bool.{cases_lt, both_ways, or_left, or_right}
 use Rattle.std.proofs.lemmas.Bool.Decides.{nat_tests}
 use Rattle.std.proofs.lemmas.List.Folds.{list_any_none}
 use Rattle.elf_load.specs.Headers.{LoadSegment}
@@ -21,7 +21,7 @@ unfolding some_overlap
 no_overlap [] h = refl
 no_overlap (s ∷ rest) h =
     let first : list_any (overlaps s) rest ≡ false =
-        list_any_none (overlaps s) rest (λ k d p. no_overlap-apart s (get_or rest k d) (h 0 (suc k) d (omega arith) (omega arith))) in
+    list_any_none (overlaps s) rest (λ k d p. no_overlap-apart s (get_or rest k d) (h 0 (suc k) d (omega arith) (omega arith))) in
     let others : some_overlap rest ≡ false = no_overlap rest (λ i j d p q. h (suc i) (suc j) d (omega arith) (omega arith)) in
     rw (first, others) refl
 
@@ -50,10 +50,21 @@ pub AreApart-neighbours : (xs : List LoadSegment) → AreInOrder xs → AllAdjac
 AreApart-neighbours xs o h = record {
   some = o.some;
   apart = λ i j d p q.
-    let next : (get_or xs i d).vaddr + (get_or xs i d).memsz ≤ (get_or xs (i + 1) d).vaddr = h i d (omega arith) in
-    elim (cases_lt (i + 1) j) [
-      inl more ↦ omega (arith, next, o.rising (i + 1) j d more q)
-    | inr same ↦ let P : ℕ → Type 0 = λ m. (get_or xs i d).vaddr + (get_or xs i d).memsz ≤ (get_or xs m d).vaddr in
-        let e : i + 1 ≡ j = omega arith in
-        subst P e next ];
+      let next : (get_or xs i d).vaddr + (get_or xs i d).memsz ≤ (get_or xs (i + 1) d).vaddr = h i d (omega arith) in
+      elim (cases_lt (i + 1) j) [
+        | inl more ↦ omega (arith, next, o.rising (i + 1) j d more q)
+        | inr same ↦ let P : ℕ → Type 0 = λ m. (get_or xs i d).vaddr + (get_or xs i d).memsz ≤ (get_or xs m d).vaddr in
+            let e : i + 1 ≡ j = omega arith in
+            subst P e next
+      ];
+}
+
+-- in order of address with none that overlap, each ends before the next begins
+pub AreApart-no_overlap : (xs : List LoadSegment) → AreInOrder xs → some_overlap xs ≡ false → AreApart xs
+AreApart-no_overlap xs o e = record {
+  some = o.some;
+  apart = λ i j d p q. elim (cases_lt (get_or xs j d).vaddr ((get_or xs i d).vaddr + (get_or xs i d).memsz)) [
+    | inl less ↦ absurd (both_ways _ e (overlap-at xs i j d p q (overlap-behind (get_or xs i d) (get_or xs j d) (o.rising i j d p q) less (o.some j d q))))
+    | inr more ↦ more
+  ];
 }

@@ -1,7 +1,7 @@
 -- Segments that share an address: whether two do depends on no order.
-use Rattle.std.proofs.Common.{◌≡◌, ℕ, zero, suc, ◌+◌, ◌*◌, ◌<◌, ◌≤◌, Bool, true, false, cond, ◌&&◌, ◌||◌, ltb, List, [], ◌∷◌, length, get_or, refl, ap, sym, ◌∙◌, arith}
+use Rattle.std.proofs.Common.{◌≡◌, ℕ, ◌+◌, ◌*◌, Bool, true, false, cond, ◌||◌, ltb, List, [], ◌∷◌, refl, ap, sym, ◌∙◌, arith}
 use Rattle.std.proofs.Math.Path.{fun_ext}
-use Rattle.std.specs.List.{list_any, sum_by, count_by, AllPairs}
+use Rattle.std.specs.List.{list_any, sum_by, count_by}
 use Rattle.std.specs.List.Sorted.{IsPermutation}
 use Rattle.std.proofs.lemmas.Bool.Decides.{nat_tests}
 use Rattle.std.proofs.lemmas.List.Sums.{sum_by-cons}
@@ -73,7 +73,7 @@ between-IsPermutation : (xs ys : List LoadSegment) → IsPermutation xs ys → b
 unfolding between
 between-IsPermutation xs ys p =
     let inner : (λ (s : LoadSegment). count_by (overlaps s) ys) ≡ (λ (s : LoadSegment). count_by (overlaps s) xs) =
-        fun_ext (λ (s : LoadSegment). sum_by-IsPermutation (λ t. cond (overlaps s t) 1 0) xs ys p) in
+    fun_ext (λ (s : LoadSegment). sum_by-IsPermutation (λ t. cond (overlaps s t) 1 0) xs ys p) in
     ap (λ f. sum_by f ys) inner ∙ sum_by-IsPermutation (λ s. count_by (overlaps s) xs) xs ys p
 
 -- whether two share an address doesn't depend on the order

@@ -5,3 +5,4 @@ pub mod Refusal
 pub mod Layout
 pub mod Answers
 pub mod Walk
+pub mod Filling

@@ -5,10 +5,9 @@ ghost use Rattle.elf_load.specs.Headers as spec;
 ghost use Rattle.elf_load.specs.Refusal as refusal;
 ghost use Rattle.elf_load.specs.Walk.{is_lendable, IsFound, AddsHeader};
 
-use std::alloc::{AllocError, Global};
-
-use crate::headers::{half_at, program_header, word_at, ProgramHeader};
+use crate::headers::{ProgramHeader, half_at, program_header, word_at};
 use crate::segment::Segment;
+use std::alloc::{AllocError, Global};
 
 /// What the program headers say.
 #[derive(Drop)]
@@ -27,7 +26,8 @@ fn has_bad_range(file: &[u8], header: &ProgramHeader) -> bool
     ensures { result ≡ refusal.has_bad_range file.now header.now }
 {
     header.kind == 1
-        && (file.len() < header.offset as usize + header.filesz as usize || header.memsz < header.filesz)
+        && (file.len() < header.offset as usize + header.filesz as usize
+            || header.memsz < header.filesz)
 }
 
 #[tactic(auto, unfolding(crate::specs::Walk::is_lendable, crate::specs::Refusal::has_bad_range, crate::specs::Headers::is_loadable, crate::specs::Headers::segment_of, crate::specs::Answers::lent))]
