@@ -1,0 +1,5 @@
+pub mod Arrays
+pub mod Fields
+pub mod Laws
+pub mod Names
+pub mod Shapes

@@ -1,0 +1,78 @@
+// Reading and flipping one bit of a number: the parts of which the impls of `Struck` are made.
+
+ghost use Rattle.std.specs.Prelude.{◌≡◌, ◌↔◌, ℕ, ◌+◌, ◌^◌, ◌<◌, ◌≤◌, IsTrue, bit_xor};
+ghost use Rattle.std.specs.List.{All};
+ghost use Rattle.std.specs.Int.{bit_at as bit_of_number};
+ghost use Rattle.bit_field.specs.Fields.{flip_field, flip_bool};
+
+/// Flips bit `k` of a row in the field of `width` bits that begins at `from`, where it is one of the
+/// field's; else nothing changes.
+pub fn flip_u32(value: &mut u32, from: u32, width: u32, k: u32)
+    requires width { width ≤ 32 }
+    requires end { from + width < 2 ^ 32 }
+    ensures flips { value.new ≡ flip_field from width value.old k }
+    ensures fits { value.old < 2 ^ width → value.new < 2 ^ width }
+{
+    if from <= k && k < from + width {
+        *value ^= 1 << (k - from);
+    }
+}
+
+/// `flip_u32` for a field of at most 8 bits.
+pub fn flip_u8(value: &mut u8, from: u32, width: u32, k: u32)
+    requires width { width ≤ 8 }
+    requires end { from + width < 2 ^ 32 }
+    ensures flips { value.new ≡ flip_field from width value.old k }
+    ensures fits { value.old < 2 ^ width → value.new < 2 ^ width }
+{
+    if from <= k && k < from + width {
+        *value ^= 1 << (k - from);
+    }
+}
+
+/// `flip_u32` for a field of the one bit `from`.
+pub fn flip_bit(value: &mut bool, from: u32, k: u32)
+    ensures { value.new ≡ flip_bool from value.old k }
+{
+    if k == from {
+        *value = !*value;
+    }
+}
+
+/// Whether bit `k` of the number is 1.
+pub fn bit_at(value: u32, k: u32) -> bool
+    requires { k < 32 }
+    ensures { IsTrue result ↔ (bit_of_number value k ≡ 1) }
+{
+    (value >> k) & 1 == 1
+}
+
+/// Flips bit `k` of a number of `width` bits.
+pub fn flip_at_u8(value: &mut u8, width: u32, k: u32)
+    requires place { k < width }
+    requires width { width ≤ 8 }
+    ensures flips { value.new ≡ bit_xor value.old (2 ^ k) }
+    ensures fits { value.old < 2 ^ width → value.new < 2 ^ width }
+{
+    *value ^= 1 << k;
+}
+
+/// Flips bit `k` of a number of `width` bits.
+pub fn flip_at_u32(value: &mut u32, width: u32, k: u32)
+    requires place { k < width }
+    requires width { width ≤ 32 }
+    ensures flips { value.new ≡ bit_xor value.old (2 ^ k) }
+    ensures fits { value.old < 2 ^ width → value.new < 2 ^ width }
+{
+    *value ^= 1 << k;
+}
+
+/// Changes nothing; says that bytes are below 2^8.
+pub fn bytes_fit(bytes: &[u8])
+    ensures { All (λ x. x < 2 ^ 8) bytes.now }
+{}
+
+/// Changes nothing; says that words are below 2^32.
+pub fn words_fit(words: &[u32])
+    ensures { All (λ x. x < 2 ^ 32) words.now }
+{}

@@ -1,0 +1,4 @@
+pub mod Execution
+pub mod Forwarding
+pub mod LatchedActions
+pub mod Latches

@@ -1,0 +1,6 @@
+pub mod Accesses
+pub mod Actions
+pub mod Arithmetic
+pub mod Effects
+pub mod Operations
+pub mod Words
