@@ -22,77 +22,77 @@ same_text a b old new e h = let e' : a ≡ b = cc in subst (Grows old new) e' h
 
 no_command : (holds : List ℕ → Option (List ℕ)) (shelf : Faults) (out err : Use) → out.new ≡ out.old → ByStatus None holds shelf out err 2
 no_command holds shelf out err h = record {
-    usage = (λ _. refl, λ _. refl);
-    read_fault = λ e. absurd (omega (arith, e));
-    write_fault = λ e. absurd (omega (arith, e));
-    due = λ job contents s e. search rules;
-    text = λ job contents text z. absurd (omega (arith, z));
-    nothing = λ _ _. h;
-    silent = λ e. absurd (omega (arith, e));
-    complete = λ job contents s. search rules;
-  }
+  usage = (λ _. refl, λ _. refl);
+  read_fault = λ e. absurd (omega (arith, e));
+  write_fault = λ e. absurd (omega (arith, e));
+  due = λ job contents s e. search rules;
+  text = λ job contents text z. absurd (omega (arith, z));
+  nothing = λ _ _. h;
+  silent = λ e. absurd (omega (arith, e));
+  complete = λ job contents s. search rules;
+}
 
 -- a refusal that the contents give
 refused : (job : Job) (holds : List ℕ → Option (List ℕ)) (shelf : Faults) (out err : Use) (r : Refusal) → status_of r ≢ 2 → status_of r ≢ 3 → status_of r ≢ 7 → status_of r ≢ 0
     → Due job holds (Refused r) → out.new ≡ out.old → ByStatus (Some job) holds shelf out err (status_of r)
 refused job holds shelf out err r a b c d h n = record {
-    usage = (λ e. absurd (a e), λ e. search rules);
-    read_fault = λ e. absurd (b e);
-    write_fault = λ e. absurd (c e);
-    due = λ j contents s e. inl (sym (ap status_due (same_job job j holds contents (Refused r) s e h)));
-    text = λ j contents text z. absurd (d z);
-    nothing = λ _ _. n;
-    silent = λ e. absurd (d e);
-    complete = λ j contents s e _ _. inl (sym (ap status_due (same_job job j holds contents (Refused r) s e h)));
-  }
+  usage = (λ e. absurd (a e), λ e. search rules);
+  read_fault = λ e. absurd (b e);
+  write_fault = λ e. absurd (c e);
+  due = λ j contents s e. inl (sym (ap status_due (same_job job j holds contents (Refused r) s e h)));
+  text = λ j contents text z. absurd (d z);
+  nothing = λ _ _. n;
+  silent = λ e. absurd (d e);
+  complete = λ j contents s e _ _. inl (sym (ap status_due (same_job job j holds contents (Refused r) s e h)));
+}
 
 read_failed : (job : Job) (holds : List ℕ → Option (List ℕ)) (shelf : Faults) (out err : Use) → Comes (Some job) holds shelf out ReadFault → ByStatus (Some job) holds shelf out err 3
 read_failed job holds shelf out err h = record {
-    usage = (λ e. absurd (omega (arith, e)), λ e. search rules);
-    read_fault = λ _. h.0;
-    write_fault = λ e. absurd (omega (arith, e));
-    due = λ j contents s e. inr (inl refl);
-    text = λ j contents text z. absurd (omega (arith, z));
-    nothing = λ _ _. h.1;
-    silent = λ e. absurd (omega (arith, e));
-    complete = λ j contents s e calm _. absurd (calm h.0);
-  }
+  usage = (λ e. absurd (omega (arith, e)), λ e. search rules);
+  read_fault = λ _. h.0;
+  write_fault = λ e. absurd (omega (arith, e));
+  due = λ j contents s e. inr (inl refl);
+  text = λ j contents text z. absurd (omega (arith, z));
+  nothing = λ _ _. h.1;
+  silent = λ e. absurd (omega (arith, e));
+  complete = λ j contents s e calm _. absurd (calm h.0);
+}
 
 write_failed : (job : Job) (holds : List ℕ → Option (List ℕ)) (shelf : Faults) (out err : Use) → Comes (Some job) holds shelf out WriteFault → ByStatus (Some job) holds shelf out err 7
 write_failed job holds shelf out err h = record {
-    usage = (λ e. absurd (omega (arith, e)), λ e. search rules);
-    read_fault = λ e. absurd (omega (arith, e));
-    write_fault = λ _. h.2;
-    due = λ j contents s e. inr (inr (inl refl));
-    text = λ j contents text z. absurd (omega (arith, z));
-    nothing = λ _ e. absurd (e refl);
-    silent = λ e. absurd (omega (arith, e));
-    complete = λ j contents s e _ calm. absurd (calm h.2);
-  }
+  usage = (λ e. absurd (omega (arith, e)), λ e. search rules);
+  read_fault = λ e. absurd (omega (arith, e));
+  write_fault = λ _. h.2;
+  due = λ j contents s e. inr (inr (inl refl));
+  text = λ j contents text z. absurd (omega (arith, z));
+  nothing = λ _ e. absurd (e refl);
+  silent = λ e. absurd (omega (arith, e));
+  complete = λ j contents s e _ calm. absurd (calm h.2);
+}
 
 no_memory : (job : Job) (holds : List ℕ → Option (List ℕ)) (shelf : Faults) (out err : Use) → out.new ≡ out.old → ByStatus (Some job) holds shelf out err 8
 no_memory job holds shelf out err h = record {
-    usage = (λ e. absurd (omega (arith, e)), λ e. search rules);
-    read_fault = λ e. absurd (omega (arith, e));
-    write_fault = λ e. absurd (omega (arith, e));
-    due = λ j contents s e. inr (inr (inr refl));
-    text = λ j contents text z. absurd (omega (arith, z));
-    nothing = λ _ _. h;
-    silent = λ e. absurd (omega (arith, e));
-    complete = λ j contents s e _ _. inr refl;
-  }
+  usage = (λ e. absurd (omega (arith, e)), λ e. search rules);
+  read_fault = λ e. absurd (omega (arith, e));
+  write_fault = λ e. absurd (omega (arith, e));
+  due = λ j contents s e. inr (inr (inr refl));
+  text = λ j contents text z. absurd (omega (arith, z));
+  nothing = λ _ _. h;
+  silent = λ e. absurd (omega (arith, e));
+  complete = λ j contents s e _ _. inr refl;
+}
 
 printed : (job : Job) (holds : List ℕ → Option (List ℕ)) (shelf : Faults) (out err : Use) (text : List ℕ) → Due job holds (Text text) → Grows out.old out.new text → err.new ≡ err.old → ByStatus (Some job) holds shelf out err 0
 printed job holds shelf out err text h g n = record {
-    usage = (λ e. absurd (omega (arith, e)), λ e. search rules);
-    read_fault = λ e. absurd (omega (arith, e));
-    write_fault = λ e. absurd (omega (arith, e));
-    due = λ j contents s e. inl (sym (ap status_due (same_job job j holds contents (Text text) s e h)));
-    text = λ j contents t _ s e a. same_text text t out.old out.new (sym (same_job job j holds contents (Text text) s e h) ∙ a) g;
-    nothing = λ e. absurd (e refl);
-    silent = λ _. n;
-    complete = λ j contents s e _ _. inl (sym (ap status_due (same_job job j holds contents (Text text) s e h)));
-  }
+  usage = (λ e. absurd (omega (arith, e)), λ e. search rules);
+  read_fault = λ e. absurd (omega (arith, e));
+  write_fault = λ e. absurd (omega (arith, e));
+  due = λ j contents s e. inl (sym (ap status_due (same_job job j holds contents (Text text) s e h)));
+  text = λ j contents t _ s e a. same_text text t out.old out.new (sym (same_job job j holds contents (Text text) s e h) ∙ a) g;
+  nothing = λ e. absurd (e refl);
+  silent = λ _. n;
+  complete = λ j contents s e _ _. inl (sym (ap status_due (same_job job j holds contents (Text text) s e h)));
+}
 
 ended : (asked : Option Job) (holds : List ℕ → Option (List ℕ)) (shelf : Faults) (out err : Use) (end : Result (Unit {0}) Refusal) → Serves asked holds shelf out end
     → (status : ℕ) → Says err status end → ByStatus asked holds shelf out err status

@@ -34,9 +34,9 @@ missed least most text h plain fits =
     let wrong : ¬ ((all_ascii_digits text ≡ true) × (0 < length text) × (digits_value 10 text < 2 ^ 64)) = parse_plain own {E = ℕ} 64 text (Err 0) h plain in
     none_of (digits_value 10 text) (all_ascii_digits text) (nat_lt 0 (length text)) _ (nat_le least (digits_value 10 text)) (nat_le (digits_value 10 text) most)
     (λ a b e.
-      let some : 0 < length text = grind (arith, nat_tests) in
-      let low : digits_value 10 text ≤ most = grind (arith, nat_tests) in
-      wrong (a, some, omega arith))
+    let some : 0 < length text = grind (arith, nat_tests) in
+    let low : digits_value 10 text ≤ most = grind (arith, nat_tests) in
+    wrong (a, some, omega arith))
 
 pub plus_at : (bytes text : List ℕ) → bytes ≡ text → get_or bytes 0 0 ≢ 43 → get_or text 0 0 ≢ 43
 plus_at bytes text e h f = h (ap (λ l. get_or l 0 0) e ∙ f)

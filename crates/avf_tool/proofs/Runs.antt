@@ -41,7 +41,7 @@ counted image zero at fits going = omega arith
 counted image (suc n) at fits going =
     let first : at.stop ≡ None = going 0 (omega arith) in
     let later : (i : ℕ) → i < n → (after image i (instruction image at)).stop ≡ None =
-      λ i h. rw first at (going (suc i) (omega (arith, h))) in
+    λ i h. rw first at (going (suc i) (omega (arith, h))) in
     let one : (instruction image at).count ≡ at.count + 1 = modulo (at.count + 1) (omega (arith, fits)) in
     let rest : (after image n (instruction image at)).count ≡ (instruction image at).count + n = counted image n (instruction image at) (rw one (omega (arith, fits))) later in
     rw first (rest ∙ ap (λ k. k + n) one ∙ omega arith)

@@ -88,11 +88,11 @@ pub record ByStatus (asked : Option Job) (holds : List ℕ → Option (List ℕ)
   pub write_fault : status ≡ 7 → Rise out.faults
   -- each other status but 8 is the one that the contents are due
   pub due : (job : Job) (contents : List ℕ) → asked ≡ Some job → told_to job holds ≡ Some contents
-    → (status ≡ status_due (answer job contents)) ⊎ ((status ≡ 3) ⊎ ((status ≡ 7) ⊎ (status ≡ 8)))
+      → (status ≡ status_due (answer job contents)) ⊎ ((status ≡ 3) ⊎ ((status ≡ 7) ⊎ (status ≡ 8)))
   -- the text is written, and at every status but 0 and 7 nothing
   pub text : (job : Job) (contents text : List ℕ) → status ≡ 0 → asked ≡ Some job → told_to job holds ≡ Some contents → answer job contents ≡ Text text → Grows out.old out.new text
   pub nothing : status ≢ 0 → status ≢ 7 → TookNothing out
   pub silent : status ≡ 0 → TookNothing err
   -- a command that meets no fault is answered by what is due, or by want of memory
   pub complete : (job : Job) (contents : List ℕ) → asked ≡ Some job → told_to job holds ≡ Some contents → (Rise shelf → ⊥) → (Rise out.faults → ⊥)
-    → (status ≡ status_due (answer job contents)) ⊎ (status ≡ 8)
+      → (status ≡ status_due (answer job contents)) ⊎ (status ≡ 8)

@@ -5,7 +5,11 @@ ghost use Rattle.avf_tool.specs.Numbers.{is_plain, number, within};
 fn within(n: u64, least: u64, most: u64) -> Option<u64>
     ensures { result ≡ within least most n }
 {
-    if least <= n && n <= most { Some(n) } else { None }
+    if least <= n && n <= most {
+        Some(n)
+    } else {
+        None
+    }
 }
 
 // Whether the digits are `0` itself or have no zero in front.

@@ -6,7 +6,7 @@ ghost use Rattle.avf_tool.specs.Answers.{IsLoaded, IsRead, IsTraced, image_limit
 
 use avf_base::{ReadError, Refusal, Shelf, Steps, read_file};
 use elf_load::Image;
-use rv_isa::Trace;
+use rv_isa::{IsaError, Trace};
 use std::alloc::Global;
 use std::sync::ledger::Ledger;
 
@@ -38,11 +38,7 @@ fn read_limited<H: Shelf>(
 }
 
 /// The bytes of an image. One of more than 16,777,216 bytes is bad image 13.
-pub fn read_image<H: Shelf>(
-    alloc: Global,
-    shelf: &mut H,
-    name: &str,
-) -> Result<Vec<u8>, Refusal>
+pub fn read_image<H: Shelf>(alloc: Global, shelf: &mut H, name: &str) -> Result<Vec<u8>, Refusal>
     ensures read { IsRead (BadImage 13) image_limit (H.holds shelf.old name.now) (H.faults shelf.old) (H.faults shelf.new) result }
     ensures keeps { (n : List ℕ) → H.holds shelf.new n ≡ H.holds shelf.old n }
     ensures later { H.faults shelf.old ≤ H.faults shelf.new }
@@ -66,5 +62,9 @@ pub fn trace_image<M: Ledger>(
 ) -> Result<Trace, Refusal>
     ensures { IsTraced image.now budget result }
 {
-    Err(Refusal::OutOfMemory)
+    match rv_isa::run(alloc, image, budget, applies) {
+        Ok(trace) => Ok(trace),
+        Err(IsaError::NoEnd) => Err(Refusal::NoEnd),
+        Err(IsaError::OutOfMemory) => Err(Refusal::OutOfMemory),
+    }
 }

@@ -72,7 +72,11 @@ fn refuse<E: Sink>(alloc: Global, refusal: Refusal, err: &mut E) -> Refusal
         Refusal::WriteFault => say(err, b"avf: write fault\n"),
         Refusal::OutOfMemory => say(err, b"avf: out of memory\n"),
         Refusal::BadSource { line, cause } => {
-            return say_made(err, refusal, format!(in alloc; "avf: bad source {line} {cause}\n"));
+            return say_made(
+                err,
+                refusal,
+                format!(in alloc; "avf: bad source {line} {cause}\n"),
+            );
         }
     }
     refusal
