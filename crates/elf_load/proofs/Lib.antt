@@ -12,3 +12,4 @@ pub mod Refusing
 pub mod Filling
 pub mod Accepted
 pub mod Loaded
+pub mod InRam
