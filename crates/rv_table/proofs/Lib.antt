@@ -2,6 +2,7 @@ pub mod Addresses
 pub mod Codes
 pub mod Encoded
 pub mod Fields
+pub mod Formed
 pub mod Forms
 pub mod Judged
 pub mod Lanes

@@ -28,3 +28,6 @@ pub use operation::{
     AluKind, BranchKind, CounterKind, LoadKind, Operation, StoreKind, operation_of,
 };
 pub use spelling::{OutOfMemory, text};
+
+#[cfg(test)]
+mod tests;
