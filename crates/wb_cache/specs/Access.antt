@@ -8,7 +8,7 @@ use Rattle.wb_cache.specs.Lookup.{set_of, way_of}
 use Rattle.wb_cache.specs.Replacement.{used}
 
 -- a word of a slot, the byte of least address in its lowest bits
-abbrev pub word_at : Slot → ℕ → ℕ
+unfoldable pub word_at : Slot → ℕ → ℕ
 word_at slot word =
     from_le_bytes w32 (slot.bytes (4 * word) ∷ slot.bytes (4 * word + 1) ∷ slot.bytes (4 * word + 2) ∷ slot.bytes (4 * word + 3) ∷ [])
 
@@ -43,20 +43,20 @@ has_lane mask lane = bit_at mask lane == 1
 abbrev pub lane_byte : ℕ → ℕ → ℕ
 lane_byte value lane = slice_index (to_le_bytes w32 value) lane
 
--- the bytes with a lane of the word at place `at` written, if the mask names it
+-- the bytes with a lane of the word at place `place` written, if the mask names it
 abbrev pub put_lane : ℕ → ℕ → ℕ → ℕ → List ℕ → List ℕ
-put_lane at mask value lane data = cond (has_lane mask lane) (slice_set data (at + lane) (lane_byte value lane)) data
+put_lane place mask value lane bytes = cond (has_lane mask lane) (slice_set bytes (place + lane) (lane_byte value lane)) bytes
 
 -- the bytes with the lanes of a mask written
 unfoldable pub put_word : ℕ → ℕ → ℕ → List ℕ → List ℕ
-put_word at mask value data =
-    put_lane at mask value 3 (put_lane at mask value 2 (put_lane at mask value 1 (put_lane at mask value 0 data)))
+put_word place mask value bytes =
+    put_lane place mask value 3 (put_lane place mask value 2 (put_lane place mask value 1 (put_lane place mask value 0 bytes)))
 
 -- a word was written into a way of a set, which is dirty then, and the way was used
 unfoldable pub put : ℕ → ℕ → ℕ → ℕ → ℕ → Contents → Contents
 put set way word mask value c =
     touched set way (record c {
-      data = put_word (16 * slot_of c.shape set way + 4 * word) mask value c.data;
+      bytes = put_word (16 * slot_of c.shape set way + 4 * word) mask value c.bytes;
       dirty = slice_set c.dirty (slot_of c.shape set way) true;
     })
 

@@ -24,7 +24,7 @@ flip_tag width = flip_array width 0 (λ v j. bit_xor v (2 ^ j))
 
 -- a bit of one of the five structures of the cache
 abbrev pub bit_in : Structure → Contents → ℕ → ℕ
-bit_in CData c k = bit_of_data c.data k
+bit_in CData c k = bit_of_data c.bytes k
 bit_in CTag c k = bit_of_tags (tag_bits c.shape) c.tags k
 bit_in CValid c k = bit_of_flags c.valid k
 bit_in CDirty c k = bit_of_flags c.dirty k
@@ -33,7 +33,7 @@ bit_in _ c k = 0
 
 -- the contents with that bit flipped, and nothing else changed
 abbrev pub flip_in : Structure → Contents → ℕ → Contents
-flip_in CData c k = record c { data = flip_data c.data k }
+flip_in CData c k = record c { bytes = flip_data c.bytes k }
 flip_in CTag c k = record c { tags = flip_tag (tag_bits c.shape) c.tags k }
 flip_in CValid c k = record c { valid = flip_flag c.valid k }
 flip_in CDirty c k = record c { dirty = flip_flag c.dirty k }

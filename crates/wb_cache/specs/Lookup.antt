@@ -1,6 +1,6 @@
 -- Where a line stands in the cache. A line is a byte address divided by 16; the lowest bits of it are its set, and the
 -- others its tag.
-use Rattle.std.specs.Prelude.{ℕ, zero, suc, ◌/◌, ◌%◌, ◌==◌, ◌&&◌, Bool, cond, Option, Some, None}
+use Rattle.std.specs.Prelude.{ℕ, zero, suc, ◌+◌, ◌*◌, ◌/◌, ◌%◌, ◌==◌, ◌&&◌, Bool, cond, Option, Some, None}
 use Rattle.bit_field.specs.declared.shapes.Shape.{Shape}
 use Rattle.wb_cache.specs.Contents.{Slot}
 

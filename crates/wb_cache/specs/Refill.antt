@@ -27,14 +27,14 @@ unfoldable pub written_back : LoadedImage → ℕ → ℕ → Contents → List 
 written_back image set way c memory =
     cond (slice_index_or c.valid (slot_of c.shape set way) false && slice_index_or c.dirty (slot_of c.shape set way) false)
     (put_line image (line_of c.shape set (slice_index c.tags (slot_of c.shape set way)))
-      (slice_range c.data (16 * slot_of c.shape set way) (16 * slot_of c.shape set way + 16)) memory)
+      (slice_range c.bytes (16 * slot_of c.shape set way) (16 * slot_of c.shape set way + 16)) memory)
     memory
 
 -- the contents once a line was read from main memory into a way of its set: valid, clean and used
 unfoldable pub filled : LoadedImage → ℕ → ℕ → List ℕ → Contents → Contents
 filled image line way memory c =
     touched (set_of c.shape line) way (record c {
-      data = replace_range c.data (16 * slot_of c.shape (set_of c.shape line) way) (16 * slot_of c.shape (set_of c.shape line) way + 16) (line_bytes image line memory);
+      bytes = replace_range c.bytes (16 * slot_of c.shape (set_of c.shape line) way) (16 * slot_of c.shape (set_of c.shape line) way + 16) (line_bytes image line memory);
       tags = slice_set c.tags (slot_of c.shape (set_of c.shape line) way) (tag_of c.shape line);
       valid = slice_set c.valid (slot_of c.shape (set_of c.shape line) way) true;
       dirty = slice_set c.dirty (slot_of c.shape (set_of c.shape line) way) false;

@@ -21,13 +21,17 @@ replaced shape nodes set =
     (cond (shape.ways == 2) (number_of (node shape nodes set 0))
     (cond (node shape nodes set 0) (2 + number_of (node shape nodes set 2)) (number_of (node shape nodes set 1))))
 
+-- the invalid way of least number
+unfoldable pub first_invalid : Shape → (ℕ → ℕ → Slot) → ℕ → Option ℕ
+first_invalid shape cache set = first_below shape.ways (λ w. not (cache set w).valid)
+
 abbrev pub way_or : Option ℕ → ℕ → ℕ
 way_or (Some w) other = w
 way_or None other = other
 
 -- the invalid way of least number, else the way to which the nodes point
 unfoldable pub victim : Shape → (ℕ → ℕ → Slot) → List Bool → ℕ → ℕ
-victim shape cache nodes set = way_or (first_below shape.ways (λ w. not (cache set w).valid)) (replaced shape nodes set)
+victim shape cache nodes set = way_or (first_invalid shape cache set) (replaced shape nodes set)
 
 -- the nodes once a way of a set was used: those above the way point away from it
 unfoldable pub used : Shape → ℕ → ℕ → List Bool → List Bool

@@ -1,11 +1,14 @@
 // The five arrays of the cache.
 
-ghost use Rattle.std.specs.Prelude.{◌≡◌, ℕ, ◌+◌, ◌*◌, ◌^◌, ◌<◌, ◌≤◌, length, replicate, slice_index, slice_index_or, slice_range, slice_set, false, IfOk};
+ghost use Rattle.std.specs.Prelude.{◌≡◌, ℕ, ◌+◌, ◌*◌, ◌^◌, ◌<◌, ◌≤◌, length, replicate, slice_index, slice_index_or, slice_range, slice_set, false, IfOk, ◌∷◌, []};
+ghost use Rattle.std.specs.Int.{w32, from_le_bytes};
 ghost use Rattle.std.specs.List.{replace_range};
-ghost use Rattle.wb_cache.specs.Access.{put_word, put_lane, word_in};
+ghost use Rattle.bit_field.specs.Shapes as shape_words;
+ghost use Rattle.bit_field.specs.Shapes.{IsShape};
+ghost use Rattle.wb_cache.specs.Access.{put_word, put_lane};
 
 use avf_base::OutOfMemory;
-use bit_field::{Struck, bit_at, bytes_fit, flip_at_u8, flip_at_u32};
+use bit_field::{Shape, Struck, bit_at, bytes_fit, flip_at_u8, flip_at_u32, tag_bits};
 use std::alloc::Global;
 use std::marker::Model;
 
@@ -26,11 +29,11 @@ impl Model for LineData {
 }
 
 impl Struck for LineData {
-    ghost use Rattle.std.specs.Prelude.{ℕ, List, length, ◌*◌};
+    ghost use Rattle.std.specs.Prelude.{length, All, ◌*◌, ◌^◌, ◌<◌};
     ghost use Rattle.wb_cache.specs.Bits as spec;
     ghost use Rattle.wb_cache.specs.Laws as spec_laws;
 
-    ghost IsFit = { spec.IsFitData };
+    ghost IsFit = { All (λ b. b < 2 ^ 8) };
 
     ghost bit_count = { λ x. length x * 8 };
 
@@ -79,7 +82,7 @@ impl LineData {
     /// The word whose lowest byte stands at a place.
     pub(crate) fn word(&self, at: u32) -> u32
         requires { at + 4 ≤ length self.now }
-        ensures { result ≡ word_in self.now at }
+        ensures { result ≡ from_le_bytes w32 (slice_index self.now at ∷ slice_index self.now (at + 1) ∷ slice_index self.now (at + 2) ∷ slice_index self.now (at + 3) ∷ []) }
     {
         let at = at as usize;
         u32::from_le_bytes([self.bytes[at], self.bytes[at + 1], self.bytes[at + 2], self.bytes[at + 3]])
@@ -177,6 +180,18 @@ impl Struck for LineTags {
 }
 
 impl LineTags {
+    /// The tags of all slots of a shape, each 0.
+    pub(crate) fn zeroed(alloc: Global, shape: &Shape) -> Result<LineTags, OutOfMemory>
+        requires { IsShape shape.now }
+        ensures { IfOk result (λ x. x ≡ record { width = shape_words.tag_bits shape.now; tags = replicate (shape_words.slots shape.now) 0 }) }
+    {
+        let len = usize::from(shape.sets) * usize::from(shape.ways);
+        Ok(LineTags {
+            width: tag_bits(shape),
+            tags: vec![in alloc; 0u32; len]?,
+        })
+    }
+
     /// The tag of a line slot.
     pub(crate) fn tag(&self, slot: u32) -> u32
         requires { slot < length self.now.tags }
@@ -213,11 +228,10 @@ impl Model for LineFlags {
 
 impl Struck for LineFlags {
     ghost use Rattle.std.specs.Prelude.{length};
-    ghost use Rattle.wb_cache.specs.Bits as spec;
-    ghost use Rattle.wb_cache.specs.Laws as spec_laws;
     ghost use Rattle.bit_field.specs.Arrays.{bit_of_flags, flip_flag};
+    ghost use Rattle.bit_field.proofs.Flags.{laws_of_flags};
 
-    ghost IsFit = { spec.IsFitFlags };
+    ghost IsFit = { λ _. Unit {0} };
 
     ghost bit_count = { λ x. length x };
 
@@ -225,7 +239,7 @@ impl Struck for LineFlags {
 
     ghost flipped = { flip_flag };
 
-    ghost laws = { spec_laws.flag_laws };
+    ghost laws = { laws_of_flags };
 
     fn bits(&self) -> u32 {
         self.flags.len() as u32
@@ -244,6 +258,16 @@ impl Struck for LineFlags {
 }
 
 impl LineFlags {
+    /// `len` bits, at most 512, none of them set.
+    pub(crate) fn cleared(alloc: Global, len: u32) -> Result<LineFlags, OutOfMemory>
+        requires { len ≤ 512 }
+        ensures { IfOk result (λ x. x ≡ replicate len false) }
+    {
+        Ok(LineFlags {
+            flags: vec![in alloc; false; len as usize]?,
+        })
+    }
+
     /// The bit of a line slot.
     pub(crate) fn is_set(&self, slot: u32) -> bool
         requires { slot < length self.now }

@@ -1,6 +1,6 @@
 // The replacement bits of the cache.
 
-ghost use Rattle.std.specs.Prelude.{◌≡◌, ℕ, ◌+◌, ◌-◌, ◌*◌, ◌<◌, ◌≤◌, length};
+ghost use Rattle.std.specs.Prelude.{◌≡◌, ℕ, ◌+◌, ◌-◌, ◌*◌, ◌<◌, ◌≤◌, false, length, replicate, slice_index_or, slice_set, IfOk};
 ghost use Rattle.bit_field.specs.Shapes.{IsShape};
 ghost use Rattle.wb_cache.specs.Replacement as spec;
 
@@ -27,11 +27,10 @@ impl Model for ReplacementNodes {
 
 impl Struck for ReplacementNodes {
     ghost use Rattle.std.specs.Prelude.{length};
-    ghost use Rattle.wb_cache.specs.Bits as bits_spec;
-    ghost use Rattle.wb_cache.specs.Laws as spec_laws;
     ghost use Rattle.bit_field.specs.Arrays.{bit_of_flags, flip_flag};
+    ghost use Rattle.bit_field.proofs.Flags.{laws_of_flags};
 
-    ghost IsFit = { bits_spec.IsFitFlags };
+    ghost IsFit = { λ _. Unit {0} };
 
     ghost bit_count = { λ x. length x };
 
@@ -39,7 +38,7 @@ impl Struck for ReplacementNodes {
 
     ghost flipped = { flip_flag };
 
-    ghost laws = { spec_laws.flag_laws };
+    ghost laws = { laws_of_flags };
 
     fn bits(&self) -> u32 {
         self.nodes.len() as u32
@@ -58,6 +57,16 @@ impl Struck for ReplacementNodes {
 }
 
 impl ReplacementNodes {
+    /// `len` nodes, at most 384, none of them set.
+    pub(crate) fn cleared(alloc: Global, len: u32) -> Result<ReplacementNodes, OutOfMemory>
+        requires { len ≤ 384 }
+        ensures { IfOk result (λ x. x ≡ replicate len false) }
+    {
+        Ok(ReplacementNodes {
+            nodes: vec![in alloc; false; len as usize]?,
+        })
+    }
+
     /// The way of a set to which its nodes point.
     #[tactic(auto, unfolding(crate::specs::Replacement::replaced))]
     pub(crate) fn replaced(&self, shape: &Shape, set: u32) -> u32
