@@ -52,6 +52,7 @@ impl Cache {
     }
 
     /// A cache of a shape, with all bits 0.
+    #[tactic(auto, unfolding(crate::specs::Contents::empty))]
     pub fn shaped(alloc: Global, shape: &Shape) -> Result<Cache, OutOfMemory>
         requires { IsShape shape.now }
         ensures { IfOk result (λ c. c ≡ empty shape.now) }
@@ -159,6 +160,7 @@ impl Cache {
 
     /// Reads a line in from main memory, in place of its set's victim, which is written back first where it is valid and dirty.
     /// Bytes outside RAM are dropped on the way out, and 0 on the way in.
+    #[tactic(auto, unfolding(crate::specs::Refill::memory_refilled, crate::specs::Refill::refilled))]
     pub fn refill(&mut self, line: u32, image: &Image, memory: &mut [u8])
         requires line { line < 2 ^ 28 }
         requires miss { way_of self.old.shape (slots self.old) line ≡ None }
@@ -173,13 +175,13 @@ impl Cache {
     }
 
     /// The byte at a byte address in the first way that holds its line; `None` exactly where no valid way does.
-    #[tactic(auto, using(crate::proofs::Hits::hits, crate::proofs::Slots::insides))]
+    #[tactic(auto, using(crate::proofs::Hits::hits))]
     pub fn byte(&self, addr: u32) -> Option<u8>
         ensures { result ≡ access.byte_of self.now addr }
     {
         let line = addr / 16;
         let way = self.lookup(line)?;
-        Some(self.data.byte(16 * self.slot(self.set_of(line), way) + addr % 16))
+        Some(self.byte_at(self.set_of(line), way, addr % 16))
     }
 
     /// Whether a line slot is valid.
@@ -263,6 +265,17 @@ impl Cache {
         ensures most { result < 512 }
     {
         u32::from(self.shape.ways) * set + way
+    }
+
+    // A byte of a line slot.
+    #[tactic(auto, using(crate::proofs::Slots::insides))]
+    fn byte_at(&self, set: u32, way: u32, offset: u32) -> u8
+        requires set { set < self.now.shape.sets }
+        requires way { way < self.now.shape.ways }
+        requires offset { offset < 16 }
+        ensures { result ≡ (slots self.now set way).bytes offset }
+    {
+        self.data.byte(16 * self.slot(set, way) + offset)
     }
 
     // A word of a line slot.
