@@ -1,5 +1,7 @@
 // The bit numbers of the buffer, the order of its stores, and a table of covers worked out by hand from the written rule.
 
+ghost use Rattle.std.specs.Prelude.{◌≡◌, ◌<◌};
+
 use super::*;
 use bit_field::Struck;
 
