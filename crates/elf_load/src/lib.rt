@@ -1,6 +1,16 @@
 //! Reads an ELF32 executable for RISC-V: says which image it means, or which rule it breaks first.
 #![tactic(auto)]
 
+pub mod error;
+mod fill;
+mod headers;
 pub mod image;
+mod layout;
+mod loader;
+pub mod segment;
+mod walk;
 
+pub use error::LoadError;
 pub use image::Image;
+pub use loader::{load, segments};
+pub use segment::Segment;
