@@ -42,3 +42,10 @@ split_by sets ways l p h = (grind arith, grind arith, grind arith)
 
 pub slot-split : (s : Shape) (l : ℕ) → IsShape s → l < slot_count s → (l / s.ways < s.sets) × (l % s.ways < s.ways) × (slot_of s (l / s.ways) (l % s.ways) ≡ l)
 slot-split s l shape h = split_by s.sets s.ways l shape.ways h
+
+tag_slot_by : (sets n k : ℕ) → (sets ≡ 16) ⊎ (sets ≡ 32) ⊎ (sets ≡ 64) ⊎ (sets ≡ 128) → k < n * (28 - index_bits sets) → k / (28 - index_bits sets) < n
+tag_slot_by sets n k p h = grind arith
+
+-- each bit of the tags is one of a slot's
+pub tag_slot : (s : Shape) (k : ℕ) → IsShape s → k < slot_count s * tag_bits s → k / tag_bits s < slot_count s
+tag_slot s k shape h = tag_slot_by s.sets (slot_count s) k shape.sets h
