@@ -25,8 +25,8 @@ unfolding first_below
 first_below-found zero w test l h e = absurd (omega arith)
 first_below-found (suc n) w test l h e =
     elim (cases_eq n w) [
-      inl q ↦ rw q (rw (h, e))
-    | inr m ↦ first_below-keeps n w test (first_below-found n w test (omega arith) h e)
+      | inl q ↦ rw q (rw (h, e))
+      | inr m ↦ first_below-keeps n w test (first_below-found n w test (omega arith) h e)
     ]
 
 pub ruleset finds = (first_below-start, first_below-on, first_below-found)
@@ -73,8 +73,8 @@ unfolding first_below
 first_below-some zero w test h = absurd cc
 first_below-some (suc n) w test h =
     elim (some_before n w test (first_below n test) (test n) refl refl h) [
-      inl m ↦ let before : IsFirst n test w = first_below-some n w test m in record { below = omega (arith, before.below); passes = before.passes; first = before.first }
-    | inr m ↦ record { below = omega (arith, m.0); passes = ap test m.0 ∙ m.2; first = λ k l. first_below-none n test m.1 k (omega (arith, m.0)) }
+      | inl m ↦ let before : IsFirst n test w = first_below-some n w test m in record { below = omega (arith, before.below); passes = before.passes; first = before.first }
+      | inr m ↦ record { below = omega (arith, m.0); passes = ap test m.0 ∙ m.2; first = λ k l. first_below-none n test m.1 k (omega (arith, m.0)) }
     ]
 
 fails_before : (w k : ℕ) (test : ℕ → Bool) (b : Bool) → test k ≡ b → (b ≡ true → k ≡ w) → k < w → test k ≡ false

@@ -21,16 +21,16 @@ line_from_parts sets line set tag e f = let whole = div-add-mod line sets in cc
 pub one_line : (sets line set tag : ℕ) → set < sets → (line == sets * tag + set) ≡ (line % sets == set && line / sets == tag)
 one_line sets line set tag h =
     elim (cases_eq line (sets * tag + set)) [
-      inl e ↦
-        let s : line % sets ≡ set = ap (λ (n : ℕ). n % sets) e ∙ set_of_line sets set tag h in
-        let t : line / sets ≡ tag = ap (λ (n : ℕ). n / sets) e ∙ tag_of_line sets set tag h in
-        grind (arith, nat_tests)
-    | inr ne ↦
-        elim (cases_eq (line % sets) set) [
-          inr m ↦ grind (arith, nat_tests)
-        | inl s ↦ elim (cases_eq (line / sets) tag) [
-            inr m ↦ grind (arith, nat_tests)
-          | inl t ↦ absurd (ne (line_from_parts sets line set tag s t))
+      | inl e ↦
+          let s : line % sets ≡ set = ap (λ (n : ℕ). n % sets) e ∙ set_of_line sets set tag h in
+          let t : line / sets ≡ tag = ap (λ (n : ℕ). n / sets) e ∙ tag_of_line sets set tag h in
+          grind (arith, nat_tests)
+      | inr ne ↦
+          elim (cases_eq (line % sets) set) [
+            | inr m ↦ grind (arith, nat_tests)
+            | inl s ↦ elim (cases_eq (line / sets) tag) [
+              | inr m ↦ grind (arith, nat_tests)
+              | inl t ↦ absurd (ne (line_from_parts sets line set tag s t))
+            ]
           ]
-        ]
     ]

@@ -63,7 +63,7 @@ put_off image line p bytes memory is long sixteen e f ne =
     let to = line_to image line is e in
     let within = in_ram-from image p f in
     replaced-off memory bytes (place_of image line) (place_of image line + 16) (p - image.base) (omega arith) (omega arith)
-      (elim (cases_lt p (16 * line)) [ inl l ↦ inl (omega (arith, within.0)) | inr l ↦ inr (omega (arith, within.0)) ])
+    (elim (cases_lt p (16 * line)) [ inl l ↦ inl (omega (arith, within.0)) | inr l ↦ inr (omega (arith, within.0)) ])
 
 put_here : (image : LoadedImage) (line p : ℕ) (bytes memory : List ℕ) → IsImage image → length memory ≡ length image.ram → length bytes ≡ 16 → in_ram image (16 * line) ≡ true → p / 16 ≡ line → slice_index (replace_range memory (place_of image line) (place_of image line + 16) bytes) (p - image.base) ≡ slice_index bytes (p % 16)
 put_here image line p bytes memory is long sixteen e q =

@@ -25,12 +25,12 @@ pub replaced-off : (xs ys : List ℕ) (i j k : ℕ) → i + length ys ≡ j → 
 replaced-off xs ys i j k e h off =
     let front : length (take i xs) ≡ i = length-front i xs (omega arith) in
     elim off [
-      inl l ↦
-        get_or_append_left (take i xs ++ ys) (drop j xs) 0 k (omega (arith, length-append (take i xs) ys))
-        ∙ get_or_append_left (take i xs) ys 0 k (omega arith)
-        ∙ get_or-take i xs k 0 l
-    | inr l ↦
-        get_or-append_right (take i xs ++ ys) (drop j xs) j k 0 (omega (arith, length-append (take i xs) ys)) l
-        ∙ get_or-drop j xs (k - j) 0
-        ∙ ap (λ (n : ℕ). get_or xs n 0) (omega arith)
+      | inl l ↦
+          get_or_append_left (take i xs ++ ys) (drop j xs) 0 k (omega (arith, length-append (take i xs) ys))
+          ∙ get_or_append_left (take i xs) ys 0 k (omega arith)
+          ∙ get_or-take i xs k 0 l
+      | inr l ↦
+          get_or-append_right (take i xs ++ ys) (drop j xs) j k 0 (omega (arith, length-append (take i xs) ys)) l
+          ∙ get_or-drop j xs (k - j) 0
+          ∙ ap (λ (n : ℕ). get_or xs n 0) (omega arith)
     ]

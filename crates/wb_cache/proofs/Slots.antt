@@ -43,10 +43,10 @@ past_inside c set way o h l m = rw (slots-inside c set way h l) (grind (arith, n
 pub byte-past : (c : Contents) (set way o : ℕ) → 16 ≤ o → (slots c set way).bytes o ≡ 0
 byte-past c set way o m =
     elim (cases_lt set c.shape.sets) [
-      inr out ↦ ap (λ (s : Slot). s.bytes o) (slots-outside c set way (inl out))
-    | inl h ↦ elim (cases_lt way c.shape.ways) [
-        inr out ↦ ap (λ (s : Slot). s.bytes o) (slots-outside c set way (inr out))
-      | inl l ↦ past_inside c set way o h l m
+      | inr out ↦ ap (λ (s : Slot). s.bytes o) (slots-outside c set way (inl out))
+      | inl h ↦ elim (cases_lt way c.shape.ways) [
+        | inr out ↦ ap (λ (s : Slot). s.bytes o) (slots-outside c set way (inr out))
+        | inl l ↦ past_inside c set way o h l m
       ]
     ]
 
@@ -67,13 +67,13 @@ put_slot-off set way s w slot cache ne = grind (arith, nat_tests)
 changed_inside : (c e : Contents) (set way : ℕ) (slot : Slot) → IsShape c.shape → e.shape ≡ c.shape → way < c.shape.ways → slot_at e (slot_of c.shape set way) ≡ slot → ((l : ℕ) → l < slot_count c.shape → l ≢ slot_of c.shape set way → slot_at e l ≡ slot_at c l) → (s w : ℕ) → s < c.shape.sets → w < c.shape.ways → slot_at e (slot_of c.shape s w) ≡ put_slot set way slot (slots c) s w
 changed_inside c e set way slot shape same l here others s w p q =
     elim (cases_eq (slot_of c.shape s w) (slot_of c.shape set way)) [
-      inl is ↦
-        let apart = slot_apart c.shape set way s w shape l q is in
-        ap (λ (n : ℕ). slot_at e n) is ∙ here ∙ sym (rw (apart.0, apart.1) (put_slot-here set way slot (slots c)))
-    | inr ne ↦
-        others (slot_of c.shape s w) (slot_below c.shape s w shape p q) ne
-        ∙ sym (slots-inside c s w p q)
-        ∙ sym (put_slot-off set way s w slot (slots c) (λ a b. ne (rw (a, b) refl)))
+      | inl is ↦
+          let apart = slot_apart c.shape set way s w shape l q is in
+          ap (λ (n : ℕ). slot_at e n) is ∙ here ∙ sym (rw (apart.0, apart.1) (put_slot-here set way slot (slots c)))
+      | inr ne ↦
+          others (slot_of c.shape s w) (slot_below c.shape s w shape p q) ne
+          ∙ sym (slots-inside c s w p q)
+          ∙ sym (put_slot-off set way s w slot (slots c) (λ a b. ne (rw (a, b) refl)))
     ]
 
 changed_outside : (c e : Contents) (set way : ℕ) (slot : Slot) → e.shape ≡ c.shape → set < c.shape.sets → way < c.shape.ways → (s w : ℕ) → (c.shape.sets ≤ s) ⊎ (c.shape.ways ≤ w) → slots e s w ≡ put_slot set way slot (slots c) s w
@@ -85,13 +85,13 @@ changed_outside c e set way slot same h l s w out =
 changed_at : (c e : Contents) (set way : ℕ) (slot : Slot) → IsShape c.shape → e.shape ≡ c.shape → set < c.shape.sets → way < c.shape.ways → slot_at e (slot_of c.shape set way) ≡ slot → ((l : ℕ) → l < slot_count c.shape → l ≢ slot_of c.shape set way → slot_at e l ≡ slot_at c l) → (s w : ℕ) → slots e s w ≡ put_slot set way slot (slots c) s w
 changed_at c e set way slot shape same h l here others s w =
     elim (cases_lt s c.shape.sets) [
-      inr out ↦ changed_outside c e set way slot same h l s w (inl out)
-    | inl p ↦ elim (cases_lt w c.shape.ways) [
-        inr out ↦ changed_outside c e set way slot same h l s w (inr out)
-      | inl q ↦
-          slots-inside e s w (rw same p) (rw same q)
-          ∙ ap (λ (n : Shape). slot_at e (slot_of n s w)) same
-          ∙ changed_inside c e set way slot shape same l here others s w p q
+      | inr out ↦ changed_outside c e set way slot same h l s w (inl out)
+      | inl p ↦ elim (cases_lt w c.shape.ways) [
+        | inr out ↦ changed_outside c e set way slot same h l s w (inr out)
+        | inl q ↦
+            slots-inside e s w (rw same p) (rw same q)
+            ∙ ap (λ (n : Shape). slot_at e (slot_of n s w)) same
+            ∙ changed_inside c e set way slot shape same l here others s w p q
       ]
     ]
 

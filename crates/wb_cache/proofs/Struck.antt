@@ -29,16 +29,16 @@ pub slots-flip_valid : (c : Contents) (k : ℕ) → IsSized c → k < bits_in CV
 unfolding slot_at
 slots-flip_valid c k sized h =
     slots-changed_at c (flip_in CValid c k) k _ sized refl h
-      (same_slot _ _ (get_or-set_same c.valid k _ false (rw (sized.valid) h)) refl refl (λ o. refl))
-      (λ m ne. same_slot _ _ (get_or-set_other c.valid k m _ false ne) refl refl (λ o. refl))
+    (same_slot _ _ (get_or-set_same c.valid k _ false (rw (sized.valid) h)) refl refl (λ o. refl))
+    (λ m ne. same_slot _ _ (get_or-set_other c.valid k m _ false ne) refl refl (λ o. refl))
     ∙ ap (λ (s : Slot). put_slot (set_at c.shape k) (way_at c.shape k) (with_valid_bit s) (slots c)) (sym (slot-at c k sized h))
 
 pub slots-flip_dirty : (c : Contents) (k : ℕ) → IsSized c → k < bits_in CDirty c.shape → slots (flip_in CDirty c k) ≡ put_slot (set_at c.shape k) (way_at c.shape k) (with_dirty_bit (slots c (set_at c.shape k) (way_at c.shape k))) (slots c)
 unfolding slot_at
 slots-flip_dirty c k sized h =
     slots-changed_at c (flip_in CDirty c k) k _ sized refl h
-      (same_slot _ _ refl (get_or-set_same c.dirty k _ false (rw (sized.dirty) h)) refl (λ o. refl))
-      (λ m ne. same_slot _ _ refl (get_or-set_other c.dirty k m _ false ne) refl (λ o. refl))
+    (same_slot _ _ refl (get_or-set_same c.dirty k _ false (rw (sized.dirty) h)) refl (λ o. refl))
+    (λ m ne. same_slot _ _ refl (get_or-set_other c.dirty k m _ false ne) refl (λ o. refl))
     ∙ ap (λ (s : Slot). put_slot (set_at c.shape k) (way_at c.shape k) (with_dirty_bit s) (slots c)) (sym (slot-at c k sized h))
 
 -- the replacement bits are no part of a slot
@@ -67,8 +67,8 @@ slots-flip_data c k sized h =
     let below : k / 128 < slot_count c.shape = omega arith in
     let within : k / 8 < length c.bytes = omega (arith, sized.bytes) in
     slots-changed_at c (flip_in CData c k) (k / 128) (with_data_bit (k % 128) (slot_at c (k / 128))) sized refl below
-      (same_slot _ _ refl refl refl (λ o. data_byte c.bytes k o within (cases_lt o 16) (cases_eq o (k % 128 / 8))))
-      (λ m ne. same_slot _ _ refl refl refl (λ o. other_byte c.bytes k m o ne (cases_lt o 16)))
+    (same_slot _ _ refl refl refl (λ o. data_byte c.bytes k o within (cases_lt o 16) (cases_eq o (k % 128 / 8))))
+    (λ m ne. same_slot _ _ refl refl refl (λ o. other_byte c.bytes k m o ne (cases_lt o 16)))
     ∙ ap (λ (s : Slot). put_slot (set_at c.shape (k / 128)) (way_at c.shape (k / 128)) (with_data_bit (k % 128) s) (slots c)) (sym (slot-at c (k / 128) sized below))
   where
     other_byte : (bytes : List ℕ) (k m o : ℕ) → m ≢ k / 128 → (o < 16) ⊎ (16 ≤ o) → cond (nat_lt o 16) (slice_index (flip_data bytes k) (16 * m + o)) 0 ≡ cond (nat_lt o 16) (slice_index bytes (16 * m + o)) 0
@@ -81,6 +81,6 @@ slots-flip_tag c k sized h =
     let l : ℕ = k / tag_bits c.shape in
     let below : l < slot_count c.shape = tag_slot c.shape k sized.shape h in
     slots-changed_at c (flip_in CTag c k) l _ sized refl below
-      (same_slot _ _ refl refl (get_or-set_same c.tags l _ 0 (rw (sized.tags) below)) (λ o. refl))
-      (λ m ne. same_slot _ _ refl refl (get_or-set_other c.tags l m _ 0 ne) (λ o. refl))
+    (same_slot _ _ refl refl (get_or-set_same c.tags l _ 0 (rw (sized.tags) below)) (λ o. refl))
+    (λ m ne. same_slot _ _ refl refl (get_or-set_other c.tags l m _ 0 ne) (λ o. refl))
     ∙ ap (λ (s : Slot). put_slot (set_at c.shape l) (way_at c.shape l) (with_tag_bit (k % tag_bits c.shape) s) (slots c)) (sym (slot-at c l sized below))

@@ -60,11 +60,11 @@ put_word-lane place mask value (suc (suc (suc (suc lane)))) bytes l h = absurd (
 pub put_word-here : (l word mask value o : ℕ) (bytes : List ℕ) → word < 4 → o < 16 → 16 * l + 16 ≤ length bytes → slice_index (put_word (16 * l + 4 * word) mask value bytes) (16 * l + o) ≡ cond (o / 4 == word && has_lane mask (o % 4)) (lane_byte value (o % 4)) (slice_index bytes (16 * l + o))
 put_word-here l word mask value o bytes w h long =
     elim (cases_eq (o / 4) word) [
-      inl e ↦
-        let at : 16 * l + o ≡ 16 * l + 4 * word + o % 4 = omega arith in
-        let lane : slice_index (put_word (16 * l + 4 * word) mask value bytes) (16 * l + 4 * word + o % 4) ≡ cond (has_lane mask (o % 4)) (lane_byte value (o % 4)) (slice_index bytes (16 * l + 4 * word + o % 4)) = put_word-lane (16 * l + 4 * word) mask value (o % 4) bytes (omega arith) (omega arith) in
-        rw (at) (lane ∙ grind (arith, nat_tests))
-    | inr ne ↦ put_word-off (16 * l + 4 * word) mask value (16 * l + o) bytes (elim (cases_lt o (4 * word)) [ inl m ↦ inl (omega arith) | inr m ↦ inr (omega arith) ]) ∙ grind (arith, nat_tests)
+      | inl e ↦
+          let at : 16 * l + o ≡ 16 * l + 4 * word + o % 4 = omega arith in
+          let lane : slice_index (put_word (16 * l + 4 * word) mask value bytes) (16 * l + 4 * word + o % 4) ≡ cond (has_lane mask (o % 4)) (lane_byte value (o % 4)) (slice_index bytes (16 * l + 4 * word + o % 4)) = put_word-lane (16 * l + 4 * word) mask value (o % 4) bytes (omega arith) (omega arith) in
+          rw (at) (lane ∙ grind (arith, nat_tests))
+      | inr ne ↦ put_word-off (16 * l + 4 * word) mask value (16 * l + o) bytes (elim (cases_lt o (4 * word)) [ inl m ↦ inl (omega arith) | inr m ↦ inr (omega arith) ]) ∙ grind (arith, nat_tests)
     ]
 
 -- a byte of another slot

@@ -26,34 +26,34 @@ written_byte : (c : Contents) (set way word mask value o : ℕ) → IsSized c �
 written_byte c set way word mask value o sized h l w =
     let below = slot_below c.shape set way sized.shape h l in
     byte_by o (cases_lt o 16) _ _
-      (λ m. put_word-here (slot_of c.shape set way) word mask value o c.bytes w m (omega (arith, sized.bytes))
-        ∙ ap (cond (o / 4 == word && has_lane mask (o % 4)) (lane_byte value (o % 4))) (sym (byte-inside c set way o h l m)))
-      (λ m. grind (arith, nat_tests, byte-past c set way o m))
+    (λ m. put_word-here (slot_of c.shape set way) word mask value o c.bytes w m (omega (arith, sized.bytes))
+    ∙ ap (cond (o / 4 == word && has_lane mask (o % 4)) (lane_byte value (o % 4))) (sym (byte-inside c set way o h l m)))
+    (λ m. grind (arith, nat_tests, byte-past c set way o m))
 
 written_here : (c : Contents) (set way word mask value : ℕ) → IsSized c → set < c.shape.sets → way < c.shape.ways → word < 4 → slot_at (put set way word mask value c) (slot_of c.shape set way) ≡ written_slot word mask value (slots c set way)
 unfolding put slot_at written_slot
 written_here c set way word mask value sized h l w =
     let below : slot_of c.shape set way < length c.dirty = rw (sized.dirty) (slot_below c.shape set way sized.shape h l) in
     same_slot _ _
-      (sym (valid-inside c set way h l))
-      (get_or-set_same c.dirty (slot_of c.shape set way) true false below)
-      (sym (tag-inside c set way h l))
-      (λ o. written_byte c set way word mask value o sized h l w)
+    (sym (valid-inside c set way h l))
+    (get_or-set_same c.dirty (slot_of c.shape set way) true false below)
+    (sym (tag-inside c set way h l))
+    (λ o. written_byte c set way word mask value o sized h l w)
 
 written_other : (c : Contents) (set way word mask value m : ℕ) → m ≢ slot_of c.shape set way → word < 4 → slot_at (put set way word mask value c) m ≡ slot_at c m
 unfolding put slot_at
 written_other c set way word mask value m ne w =
     same_slot _ _
-      refl
-      (get_or-set_other c.dirty (slot_of c.shape set way) m true false ne)
-      refl
-      (λ o. byte_by o (cases_lt o 16) _ _
-        (λ l. put_word-other (slot_of c.shape set way) m word mask value o c.bytes ne w l ∙ grind (arith, nat_tests))
-        (λ l. grind (arith, nat_tests)))
+    refl
+    (get_or-set_other c.dirty (slot_of c.shape set way) m true false ne)
+    refl
+    (λ o. byte_by o (cases_lt o 16) _ _
+    (λ l. put_word-other (slot_of c.shape set way) m word mask value o c.bytes ne w l ∙ grind (arith, nat_tests))
+    (λ l. grind (arith, nat_tests)))
 
 pub slots-put : (c : Contents) (set way word mask value : ℕ) → IsSized c → set < c.shape.sets → way < c.shape.ways → word < 4 → slots (put set way word mask value c) ≡ put_slot set way (written_slot word mask value (slots c set way)) (slots c)
 unfolding put
 slots-put c set way word mask value sized h l w =
     slots-changed c (put set way word mask value c) set way (written_slot word mask value (slots c set way)) sized.shape refl h l
-      (written_here c set way word mask value sized h l w)
-      (λ m within ne. written_other c set way word mask value m ne w)
+    (written_here c set way word mask value sized h l w)
+    (λ m within ne. written_other c set way word mask value m ne w)

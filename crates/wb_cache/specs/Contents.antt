@@ -5,11 +5,11 @@ use Rattle.bit_field.specs.Shapes.{IsShape, tag_bits, slots as slot_count}
 
 pub record Contents : Type 0 where
   pub shape : Shape
-  pub bytes : List ℕ       -- byte o of slot l is byte 16 l + o
-  pub tags : List ℕ        -- of each slot
-  pub valid : List Bool    -- of each slot
-  pub dirty : List Bool    -- of each slot
-  pub nodes : List Bool    -- the replacement bits: node n of a set is at (ways - 1) * set + n
+  pub bytes : List ℕ  -- byte o of slot l is byte 16 l + o
+  pub tags : List ℕ  -- of each slot
+  pub valid : List Bool  -- of each slot
+  pub dirty : List Bool  -- of each slot
+  pub nodes : List Bool  -- the replacement bits: node n of a set is at (ways - 1) * set + n
 
 -- the contents of a new cache: all bits are 0
 unfoldable pub empty : Shape → Contents

@@ -27,7 +27,7 @@ unfoldable pub written_back : LoadedImage → ℕ → ℕ → Contents → List 
 written_back image set way c memory =
     cond (slice_index_or c.valid (slot_of c.shape set way) false && slice_index_or c.dirty (slot_of c.shape set way) false)
     (put_line image (line_of c.shape set (slice_index c.tags (slot_of c.shape set way)))
-      (slice_range c.bytes (16 * slot_of c.shape set way) (16 * slot_of c.shape set way + 16)) memory)
+    (slice_range c.bytes (16 * slot_of c.shape set way) (16 * slot_of c.shape set way + 16)) memory)
     memory
 
 -- the contents once a line was read from main memory into a way of its set: valid, clean and used

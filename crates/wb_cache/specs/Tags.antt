@@ -4,8 +4,8 @@ use Rattle.std.specs.Int.{bit_at}
 use Rattle.bit_field.specs.Arrays.{bit_of_array, flip_array}
 
 pub record TagArray : Type 0 where
-  pub width : ℕ          -- bits of a tag
-  pub tags : List ℕ      -- by line slot
+  pub width : ℕ  -- bits of a tag
+  pub tags : List ℕ  -- by line slot
 
 -- The width goes with the number of sets, since a line has 28 bits; there are 1, 2 or 4 ways.
 pub record IsTagArray (t : TagArray) : Type 0 where

@@ -85,7 +85,12 @@ impl LineData {
         ensures { result ≡ from_le_bytes w32 (slice_index self.now at ∷ slice_index self.now (at + 1) ∷ slice_index self.now (at + 2) ∷ slice_index self.now (at + 3) ∷ []) }
     {
         let at = at as usize;
-        u32::from_le_bytes([self.bytes[at], self.bytes[at + 1], self.bytes[at + 2], self.bytes[at + 3]])
+        u32::from_le_bytes([
+            self.bytes[at],
+            self.bytes[at + 1],
+            self.bytes[at + 2],
+            self.bytes[at + 3],
+        ])
     }
 
     /// The bytes of a line slot.
@@ -171,7 +176,11 @@ impl Struck for LineTags {
     }
 
     fn flip(&mut self, k: u32) {
-        flip_at_u32(&mut self.tags[(k / self.width) as usize], self.width, k % self.width);
+        flip_at_u32(
+            &mut self.tags[(k / self.width) as usize],
+            self.width,
+            k % self.width,
+        );
     }
 
     fn fits(&self) {

@@ -10,14 +10,13 @@ ghost use Rattle.wb_cache.specs.Replacement as replacement;
 ghost use Rattle.wb_cache.specs.Access as access;
 ghost use Rattle.wb_cache.specs.Refill as refills;
 
+use crate::arrays::{LineData, LineFlags, LineTags};
+use crate::nodes::ReplacementNodes;
 use avf_base::OutOfMemory;
 use bit_field::{Place, Shape, Struck, Structure, plain_shape};
 use elf_load::Image;
 use std::alloc::Global;
 use std::marker::Model;
-
-use crate::arrays::{LineData, LineFlags, LineTags};
-use crate::nodes::ReplacementNodes;
 
 /// The cache. A line is a byte address divided by 16, below 2^28; its set is the line modulo the number of sets, and its tag
 /// the line divided by it.
@@ -64,7 +63,10 @@ impl Cache {
             tags: LineTags::zeroed(alloc, shape)?,
             valid: LineFlags::cleared(alloc, slots)?,
             dirty: LineFlags::cleared(alloc, slots)?,
-            nodes: ReplacementNodes::cleared(alloc, u32::from(shape.sets) * (u32::from(shape.ways) - 1))?,
+            nodes: ReplacementNodes::cleared(
+                alloc,
+                u32::from(shape.sets) * (u32::from(shape.ways) - 1),
+            )?,
         })
     }
 

@@ -17,3 +17,6 @@ pub use arrays::{LineData, LineFlags, LineTags};
 pub use cache::Cache;
 pub use event::{CacheEvent, EventKind};
 pub use nodes::ReplacementNodes;
+
+#[cfg(test)]
+mod tests;
