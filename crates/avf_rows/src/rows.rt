@@ -55,14 +55,14 @@ fn row<R: Abort + AllocGlobal, L: Ledger, M: Ledger>(
     let alloc = rt.alloc();
     let words = words(alloc, line).expect(rt, "ample memory");
     let given = call(alloc, &words, file, steps, applies).expect(rt, "ample memory");
-    assert_eq!(rt; given.status, status, "{line}");
+    assert_eq!(rt; given.status, status, "{line}: {text}");
     let (told, silent) = if status == 0 {
         (given.out.kept(), given.err.kept())
     } else {
         (given.err.kept(), given.out.kept())
     };
-    assert!(rt; told == text.as_bytes(), "{line}");
-    assert!(rt; silent.is_empty(), "{line}");
+    assert!(rt; told == text.as_bytes(), "{line}: {text}");
+    assert!(rt; silent.is_empty(), "{line}: {text}");
 }
 
 // Rows on flat images of words.
@@ -128,7 +128,7 @@ fn changes<R: Abort + AllocGlobal, L: Ledger, M: Ledger>(rt: &R, steps: &mut Ste
         (&[(76, 4)], 12),
         (&[(26, 2)], 12),
         (&[(24, 2)], 12),
-        (&[(44, 2)], 10),
+        (&[(44, 2)], 8),
     ];
     for (changes, reason) in rows {
         let file = changed(rt.alloc(), changes).expect(rt, "ample memory");
