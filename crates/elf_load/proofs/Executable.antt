@@ -27,8 +27,9 @@ pub ruleset any_executable_steps = (any_executable-none, any_executable-more, an
 pub any_executable-each : (image : LoadedImage) (a n k : ℕ) → any_executable image a n ≡ false → k < n → executable image (a + k) ≡ false
 any_executable-each image a n k e h =
     elim (cases_Bool (executable image (a + k))) [
-      inl found ↦ absurd (both_ways _ e (any_executable-at image a n k h found))
-    | inr none ↦ none ]
+      | inl found ↦ absurd (both_ways _ e (any_executable-at image a n k h found))
+      | inr none ↦ none
+    ]
 
 pub executable-in_ram : (image : LoadedImage) (a : ℕ) → executable image a ≡ true → in_ram image a ≡ true
 unfolding executable
@@ -70,6 +71,7 @@ fetch-below image w x i h = chosen (word_executable image w) (little_number 4 (d
   where
     small : little_number 4 (drop (4 * w - image.base) image.ram) < 2 ^ 32
     small = little_from-lt 0 4 (drop (4 * w - image.base) image.ram) (λ k. rw get_or-drop (i.bytes (4 * w - image.base + k)))
+
     chosen : (b : Bool) (y : ℕ) → cond b (Some y) None ≡ Some x → y < 2 ^ 32 → x < 2 ^ 32
     chosen true y e l = let same : y ≡ x = cc in omega (arith, same, l)
     chosen false y e l = absurd (cc)

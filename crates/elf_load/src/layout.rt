@@ -9,6 +9,12 @@ ghost use Rattle.elf_load.specs.Refusal as refusal;
 
 use crate::segment::Segment;
 
+/// RAM begins at a multiple of this many bytes.
+const BLOCK: u32 = 65_536;
+
+/// How many byte addresses there are.
+const ADDRESSES: u64 = 0x1_0000_0000;
+
 /// One past the byte address of a segment's last byte.
 fn end(segment: &Segment) -> u64
     ensures { result ≡ segment.now.vaddr + segment.now.memsz }
@@ -30,11 +36,11 @@ pub fn base_address(segments: &[Segment]) -> u32
     requires order { AreInOrder (map lent segments.now) }
     ensures { result ≡ base_of (map lent segments.now) }
 {
-    segments[0].vaddr / 65_536 * 65_536
+    segments[0].vaddr / BLOCK * BLOCK
 }
 
-#[tactic(auto, unfolding(crate::specs::Refusal::ends_above, crate::specs::Answers::lent))]
 /// Whether a segment ends above an address.
+#[tactic(auto, unfolding(crate::specs::Refusal::ends_above, crate::specs::Answers::lent))]
 fn ends_above(segment: &Segment, limit: u64) -> bool
     ensures { result ≡ refusal.ends_above limit (lent segment.now) }
 {
@@ -52,7 +58,7 @@ fn some_ends_above(segments: &[Segment], limit: u64) -> bool
 fn leaves_ram(segments: &[Segment], limit: u64) -> bool
     ensures { result ≡ (nat_le (2 ^ 32) limit || list_any (λ s. refusal.ends_above limit (lent s)) segments.now) }
 {
-    limit >= 0x1_0000_0000 || some_ends_above(segments, limit)
+    limit >= ADDRESSES || some_ends_above(segments, limit)
 }
 
 /// Whether two of these segments share an address.
@@ -80,33 +86,33 @@ fn has_bad_layout(segments: &[Segment], size: u32) -> bool
     leaves_ram(segments, limit) || some_overlap(segments)
 }
 
-#[tactic(auto, unfolding(crate::specs::Meaning::holds, crate::specs::Answers::lent))]
 /// Whether a segment is executable and holds the byte at a byte address.
-fn is_code_of(segment: &Segment, addr: u32) -> bool
+#[tactic(auto, unfolding(crate::specs::Meaning::holds, crate::specs::Answers::lent))]
+fn holds_code(segment: &Segment, addr: u32) -> bool
     ensures { result ≡ (segment.now.exec && holds (lent segment.now) addr) }
 {
     segment.exec && segment.vaddr <= addr && u64::from(addr) < end(segment)
 }
 
 /// Whether an executable segment holds the byte at a byte address.
-fn is_code(segments: &[Segment], addr: u32) -> bool
+fn is_code_byte(segments: &[Segment], addr: u32) -> bool
     ensures { result ≡ list_any (λ s. s.exec && holds (lent s) addr) segments.now }
 {
-    segments.iter().any(|segment| is_code_of(segment, addr))
+    segments.iter().any(|segment| holds_code(segment, addr))
 }
 
-#[tactic(auto, using(crate::proofs::Lent::tests_of_lent))]
 /// Whether executable segments hold the four bytes from a byte address on.
+#[tactic(auto, using(crate::proofs::Lent::tests_of_lent))]
 fn is_code_word(segments: &[Segment], addr: u32) -> bool
     requires { addr + 3 < 2 ^ 32 }
     ensures { result
         ≡ (code_in (map lent segments.now) addr && code_in (map lent segments.now) (addr + 1)
         && code_in (map lent segments.now) (addr + 2) && code_in (map lent segments.now) (addr + 3)) }
 {
-    is_code(segments, addr)
-        && is_code(segments, addr + 1)
-        && is_code(segments, addr + 2)
-        && is_code(segments, addr + 3)
+    is_code_byte(segments, addr)
+        && is_code_byte(segments, addr + 1)
+        && is_code_byte(segments, addr + 2)
+        && is_code_byte(segments, addr + 3)
 }
 
 /// Whether the entry isn't a multiple of 4, or one of its four bytes isn't executable.
@@ -117,8 +123,8 @@ fn has_bad_entry(segments: &[Segment], entry: u32) -> bool
     entry % 4 != 0 || !is_code_word(segments, entry)
 }
 
-#[tactic(auto, unfolding(crate::specs::Refusal::layout_refusal))]
 /// The reason 11 or 12, which concern the layout of the segments, that stands first.
+#[tactic(auto, unfolding(crate::specs::Refusal::layout_refusal))]
 pub fn layout_refusal(segments: &[Segment], entry: u32, size: u32) -> Option<u8>
     requires order { AreInOrder (map lent segments.now) }
     ensures { result ≡ refusal.layout_refusal (map lent segments.now) entry size }

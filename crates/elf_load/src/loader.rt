@@ -8,7 +8,7 @@ ghost use Rattle.elf_load.specs.Refusal.{layout_refusal};
 
 use crate::error::LoadError;
 use crate::fill::{code_of, ram_of};
-use crate::headers::{file_refusal, word_at};
+use crate::headers::{ENTRY, file_refusal, word_at};
 use crate::image::Image;
 use crate::layout::{base_address, layout_refusal, put_in_order};
 use crate::segment::Segment;
@@ -33,7 +33,7 @@ pub fn segments<'b>(alloc: Global, bytes: &'b [u8], ram: u32) -> Result<Vec<Segm
     }
     let mut segments = found.segments;
     put_in_order(&mut segments);
-    match layout_refusal(&segments, word_at(bytes, 24), ram) {
+    match layout_refusal(&segments, word_at(bytes, ENTRY), ram) {
         Some(reason) => Err(LoadError::Bad(reason)),
         None => Ok(segments),
     }
@@ -59,5 +59,5 @@ pub fn load(alloc: Global, bytes: &[u8], ram: u32) -> Result<Image, LoadError>
     ensures { Loads bytes.now ram result }
 {
     let segments = segments(alloc, bytes, ram)?;
-    Ok(image_of(alloc, &segments, word_at(bytes, 24), ram)?)
+    Ok(image_of(alloc, &segments, word_at(bytes, ENTRY), ram)?)
 }

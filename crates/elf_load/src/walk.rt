@@ -5,7 +5,10 @@ ghost use Rattle.elf_load.specs.Headers as spec;
 ghost use Rattle.elf_load.specs.Refusal as refusal;
 ghost use Rattle.elf_load.specs.Walk.{is_lendable, IsFound, AddsHeader};
 
-use crate::headers::{ProgramHeader, half_at, program_header, word_at};
+use crate::headers::{
+    HEADERS_COUNT, HEADERS_OFFSET, INTERPRETER, LOADABLE, PROGRAM_HEADER, ProgramHeader, half_at,
+    program_header, word_at,
+};
 use crate::segment::Segment;
 use std::alloc::{AllocError, Global};
 
@@ -20,23 +23,23 @@ pub struct Found<'b> {
     pub segments: Vec<Segment<'b>>,
 }
 
-#[tactic(auto, unfolding(crate::specs::Refusal::has_bad_range))]
 /// Whether a loadable header's bytes end past the file, or are more than its size in memory.
+#[tactic(auto, unfolding(crate::specs::Refusal::has_bad_range))]
 fn has_bad_range(file: &[u8], header: &ProgramHeader) -> bool
     ensures { result ≡ refusal.has_bad_range file.now header.now }
 {
-    header.kind == 1
+    header.kind == LOADABLE
         && (file.len() < header.offset as usize + header.filesz as usize
             || header.memsz < header.filesz)
 }
 
-#[tactic(auto, unfolding(crate::specs::Walk::is_lendable, crate::specs::Refusal::has_bad_range, crate::specs::Headers::is_loadable, crate::specs::Headers::segment_of, crate::specs::Answers::lent))]
 /// The segment of a loadable header with its bytes in the file.
+#[tactic(auto, unfolding(crate::specs::Walk::is_lendable, crate::specs::Refusal::has_bad_range, crate::specs::Headers::is_loadable, crate::specs::Headers::segment_of, crate::specs::Answers::lent))]
 fn segment<'b>(file: &'b [u8], header: &ProgramHeader) -> Option<Segment<'b>>
     ensures { MatchOption result (is_lendable file.now header.now ≡ false)
         (λ s. IsTrue (is_lendable file.now header.now) × (lent s ≡ spec.segment_of file.now header.now)) }
 {
-    if has_bad_range(file, header) || header.kind != 1 || header.memsz == 0 {
+    if has_bad_range(file, header) || header.kind != LOADABLE || header.memsz == 0 {
         return None;
     }
     let start = header.offset as usize;
@@ -48,12 +51,12 @@ fn segment<'b>(file: &'b [u8], header: &ProgramHeader) -> Option<Segment<'b>>
     })
 }
 
-#[tactic(auto, unfolding(crate::specs::Refusal::is_interpreter))]
 /// Takes one more header into account.
+#[tactic(auto, unfolding(crate::specs::Refusal::is_interpreter))]
 fn add<'b>(found: &mut Found<'b>, file: &'b [u8], header: &ProgramHeader) -> Result<(), AllocError>
     ensures { OnOk result (AddsHeader file.now header.now found.old found.new) }
 {
-    found.interpreter = found.interpreter || header.kind == 3;
+    found.interpreter = found.interpreter || header.kind == INTERPRETER;
     found.bad_range = found.bad_range || has_bad_range(file, header);
     if let Some(segment) = segment(file, header) {
         found.segments.push(segment)?;
@@ -61,8 +64,8 @@ fn add<'b>(found: &mut Found<'b>, file: &'b [u8], header: &ProgramHeader) -> Res
     Ok(())
 }
 
-#[tactic(auto, using(crate::proofs::FileHeader::accepted))]
 /// Walks over the program headers.
+#[tactic(auto, using(crate::proofs::FileHeader::accepted))]
 pub fn walk<'b>(alloc: Global, file: &'b [u8]) -> Result<Found<'b>, AllocError>
     requires { refusal.file_refusal file.now ≡ None }
     ensures { IfOk result (IsFound file.now (spec.program_headers file.now)) }
@@ -72,9 +75,13 @@ pub fn walk<'b>(alloc: Global, file: &'b [u8]) -> Result<Found<'b>, AllocError>
         bad_range: false,
         segments: Vec::new(alloc),
     };
-    let start = word_at(file, 28) as usize;
-    for k in 0..half_at(file, 44) as usize {
-        add(&mut found, file, &program_header(file, start + 32 * k))?;
+    let start = word_at(file, HEADERS_OFFSET) as usize;
+    for k in 0..half_at(file, HEADERS_COUNT) as usize {
+        add(
+            &mut found,
+            file,
+            &program_header(file, start + PROGRAM_HEADER * k),
+        )?;
     }
     Ok(found)
 }

@@ -1,8 +1,10 @@
 // The instructions of RV32IM with the four counter reads: the word table, the arithmetic, and what an
 // instruction asks for, from its operands alone.
 //
-// `operation` names what a code means, `op` is a decoded instruction, `arithmetic` and `execution` are what it computes,
-// `action` is what it does besides going on, `access` which bytes of memory that concerns.
+// `operation` names what a code means and `op` is a decoded instruction. `form` has the forms of the words,
+// `decoding` leads from a word to the operation, `encoding` back, and `spelling` is the assembler's text.
+// `arithmetic` and `execution` compute results and targets, `action` is what an instruction does besides going on,
+// and `access` which bytes of memory that concerns.
 #![tactic(auto)]
 
 mod access;

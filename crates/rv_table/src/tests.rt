@@ -13,7 +13,7 @@ const SPELLINGS: [(u32, &str); 18] = [
     (0x0020_006F, "jal zero, 2"),
     (0x0000_0067, "jalr zero, 0(zero)"),
     (0xFE0F_8EE3, "beq t6, zero, -4"),
-    (0x8000_0FE3, "beq zero, zero, -2"),
+    (0xFE00_0FE3, "beq zero, zero, -2"),
     (0x0000_00E3, "beq zero, zero, 2048"),
     (0xFFFF_F037, "lui zero, 1048575"),
     (0x41F5_5513, "srai a0, a0, 31"),
