@@ -1,5 +1,5 @@
 -- What holds of each instruction of a trace.
-use Rattle.std.proofs.Common.{◌≡◌, ℕ, ◌%◌, ◌^◌, ◌<◌, ◌⊎◌, Option, Some, None, refl, sym, ◌∙◌, ap, subst, arith, lit<}
+use Rattle.std.proofs.Common.{◌≡◌, ℕ, ◌%◌, ◌^◌, ◌<◌, ◌⊎◌, Option, Some, None, refl, subst, arith, lit<}
 use Rattle.std.specs.Option.{ForSome}
 use Rattle.std.specs.Prelude.{length, slice_get}
 use Rattle.std.proofs.lemmas.Bool.Decides.{nat_tests}

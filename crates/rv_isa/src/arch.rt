@@ -129,7 +129,7 @@ impl<'i> Arch<'i> {
         }
     }
 
-    /// What an operation does in this state. It counts one in `applies`.
+    /// What an operation does in this state: `commit` of the effect is the operation's step. It counts one in `applies`.
     pub fn effect<L: Ledger>(&self, op: &Op, applies: &mut Steps<L>) -> Effect
         requires rd { op.now.rd < 32 }
         requires rs1 { op.now.rs1 < 32 }
@@ -143,6 +143,7 @@ impl<'i> Arch<'i> {
         self.effect_of(op)
     }
 
+    /// What an operation does in this state, uncounted.
     #[tactic(auto, unfolding(crate::specs::Effects::effect_of))]
     fn effect_of(&self, op: &Op) -> Effect
         requires rs1 { op.now.rs1 < 32 }
@@ -280,12 +281,14 @@ impl<'i> Arch<'i> {
     }
 }
 
+/// The registers at reset.
 fn zeros() -> [u32; 32]
     ensures { result ≡ replicate 32 0 }
 {
     [0; 32]
 }
 
+/// Writes a register, 1 to 31.
 #[tactic(auto, using(crate::proofs::Lists::indexed))]
 fn write_register(registers: &mut [u32; 32], write: Option<(u8, u32)>)
     requires { ForSome write (λ write. (0 < write.0) × (write.0 < 32)) }
@@ -298,8 +301,8 @@ fn write_register(registers: &mut [u32; 32], write: Option<(u8, u32)>)
     }
 }
 
-#[tactic(auto, using(crate::proofs::Lists::word_of_list))]
 /// The little-endian word from index `at` on.
+#[tactic(auto, using(crate::proofs::Lists::word_of_list))]
 fn word_from(bytes: &[u8], at: usize) -> u32
     requires { at + 4 ≤ length bytes.now }
     ensures { result ≡ word_of_bytes (λ i. slice_index bytes.now (at + i)) }
@@ -307,6 +310,7 @@ fn word_from(bytes: &[u8], at: usize) -> u32
     LittleEndian::read_u32(&bytes[at..])
 }
 
+/// Stores the low bytes of a value at a byte address in RAM.
 fn write_memory(memory: &mut Vec<u8>, image: &Image, store: Option<(u32, u8, u32)>)
     requires place { ForSome store (λ store. IsInRam image.now store.0 store.1) }
     requires size { length memory.old.items ≡ length image.now.ram }
@@ -319,8 +323,8 @@ fn write_memory(memory: &mut Vec<u8>, image: &Image, store: Option<(u32, u8, u32
     }
 }
 
-#[tactic(auto, using(crate::proofs::Lists::stored_more))]
 /// Stores the low `size` bytes of a value, the lowest first, from index `at` on.
+#[tactic(auto, using(crate::proofs::Lists::stored_more))]
 fn store_bytes(bytes: &mut Vec<u8>, at: usize, size: u8, value: u32)
     requires place { at + size ≤ length bytes.old.items }
     requires size { size ≤ 4 }
@@ -332,8 +336,8 @@ fn store_bytes(bytes: &mut Vec<u8>, at: usize, size: u8, value: u32)
     }
 }
 
-#[tactic(auto, using(crate::proofs::Lists::clock_steps))]
 /// How many clock values are taken after an instruction.
+#[tactic(auto, using(crate::proofs::Lists::clock_steps))]
 fn taken_after(clocks: &[u32], taken: usize, clocked: bool) -> usize
     requires { taken ≤ length clocks.now }
     ensures values { drop result clocks.now ≡ (if clocked then later_clocks (drop taken clocks.now) else drop taken clocks.now) }
