@@ -36,7 +36,9 @@ fn row<R: Abort + AllocGlobal, L: Ledger, M: Ledger>(
     shelf.put("a.elf", &file).expect(rt, "ample memory");
     let mut out = MemSink::new(alloc, 4096, 4, faults.out).expect(rt, "ample memory");
     let mut err = MemSink::new(alloc, 4096, 4096, faults.err).expect(rt, "ample memory");
-    let given = run_tool(alloc, &words, &mut shelf, &mut out, &mut err, steps, applies);
+    let given = run_tool(
+        alloc, &words, &mut shelf, &mut out, &mut err, steps, applies,
+    );
     assert_eq!(rt; given, status, "{line}");
     assert!(rt; out.kept() == out_text.as_bytes(), "{line}");
     assert!(rt; err.kept() == err_text.as_bytes(), "{line}");
@@ -55,18 +57,117 @@ fn all<R: Abort + AllocGlobal + Files, L: Ledger, M: Ledger>(rt: &R, one: Blank,
     let three = "output -\nend exit 7\ninstructions 3\n";
     // The file is read by two reads, the second of which gives no byte.
     let rows: [(&str, Faults<'_>, u8, &str, &str); 9] = [
-        ("run a.elf 6", Faults { reads: &[1], out: &[], err: &[] }, 3, "", "avf: read fault\n"),
-        ("run a.elf 6", Faults { reads: &[2], out: &[], err: &[] }, 3, "", "avf: read fault\n"),
-        ("run a.elf 6", Faults { reads: &[3], out: &[], err: &[] }, 0, three, ""),
-        ("run b.elf 6", Faults { reads: &[], out: &[], err: &[] }, 3, "", "avf: read fault\n"),
-        ("run a.elf 6", Faults { reads: &[], out: &[3], err: &[] }, 7, "output -", "avf: write fault\n"),
-        ("run a.elf 6", Faults { reads: &[], out: &[1], err: &[1] }, 7, "", ""),
-        ("run a.elf 2", Faults { reads: &[], out: &[], err: &[1] }, 5, "", ""),
-        ("run a.elf 0", Faults { reads: &[1], out: &[1], err: &[1] }, 2, "", ""),
-        ("run b.elf 6", Faults { reads: &[], out: &[], err: &[1] }, 3, "", ""),
+        (
+            "run a.elf 6",
+            Faults {
+                reads: &[1],
+                out: &[],
+                err: &[],
+            },
+            3,
+            "",
+            "avf: read fault\n",
+        ),
+        (
+            "run a.elf 6",
+            Faults {
+                reads: &[2],
+                out: &[],
+                err: &[],
+            },
+            3,
+            "",
+            "avf: read fault\n",
+        ),
+        (
+            "run a.elf 6",
+            Faults {
+                reads: &[3],
+                out: &[],
+                err: &[],
+            },
+            0,
+            three,
+            "",
+        ),
+        (
+            "run b.elf 6",
+            Faults {
+                reads: &[],
+                out: &[],
+                err: &[],
+            },
+            3,
+            "",
+            "avf: read fault\n",
+        ),
+        (
+            "run a.elf 6",
+            Faults {
+                reads: &[],
+                out: &[3],
+                err: &[],
+            },
+            7,
+            "output -",
+            "avf: write fault\n",
+        ),
+        (
+            "run a.elf 6",
+            Faults {
+                reads: &[],
+                out: &[1],
+                err: &[1],
+            },
+            7,
+            "",
+            "",
+        ),
+        (
+            "run a.elf 2",
+            Faults {
+                reads: &[],
+                out: &[],
+                err: &[1],
+            },
+            5,
+            "",
+            "",
+        ),
+        (
+            "run a.elf 0",
+            Faults {
+                reads: &[1],
+                out: &[1],
+                err: &[1],
+            },
+            2,
+            "",
+            "",
+        ),
+        (
+            "run b.elf 6",
+            Faults {
+                reads: &[],
+                out: &[],
+                err: &[1],
+            },
+            3,
+            "",
+            "",
+        ),
     ];
     for (line, faults, status, out_text, err_text) in &rows {
-        row(rt, &mut steps, &mut applies, line, faults, *status, out_text, err_text);
+        row(
+            rt,
+            &mut steps,
+            &mut applies,
+            line,
+            faults,
+            *status,
+            out_text,
+            err_text,
+        );
     }
 }
 

@@ -66,7 +66,11 @@ fn row<R: Abort + AllocGlobal, L: Ledger, M: Ledger>(
 }
 
 // Rows on flat images of words.
-fn runs<R: Abort + AllocGlobal, L: Ledger, M: Ledger>(rt: &R, steps: &mut Steps<L>, applies: &mut Steps<M>) {
+fn runs<R: Abort + AllocGlobal, L: Ledger, M: Ledger>(
+    rt: &R,
+    steps: &mut Steps<L>,
+    applies: &mut Steps<M>,
+) {
     let three = "output -\nend exit 7\ninstructions 3\n";
     let rows: [(&str, &[u32], u8, &str); 13] = [
         ("run a.elf 6", &THREE, 0, three),
@@ -78,10 +82,25 @@ fn runs<R: Abort + AllocGlobal, L: Ledger, M: Ledger>(rt: &R, steps: &mut Steps<
         ("run a.elf", &THREE, 2, "avf: usage\n"),
         ("fly a.elf 6", &THREE, 2, "avf: usage\n"),
         ("run  6", &THREE, 2, "avf: usage\n"),
-        ("run a.elf 1", &[0x00042283], 0, "output -\nend trap 5\ninstructions 1\n"),
-        ("run a.elf 2", &[0x00700513], 0, "output -\nend trap 1\ninstructions 2\n"),
+        (
+            "run a.elf 1",
+            &[0x00042283],
+            0,
+            "output -\nend trap 5\ninstructions 1\n",
+        ),
+        (
+            "run a.elf 2",
+            &[0x00700513],
+            0,
+            "output -\nend trap 1\ninstructions 2\n",
+        ),
         ("run a.elf 1", &[0x00700513], 5, "avf: no end\n"),
-        ("run a.elf 4", &[0x0020006F], 0, "output -\nend trap 2\ninstructions 1\n"),
+        (
+            "run a.elf 4",
+            &[0x0020006F],
+            0,
+            "output -\nend trap 2\ninstructions 1\n",
+        ),
     ];
     for (line, words, status, text) in rows {
         let file = flat(rt.alloc(), words).expect(rt, "ample memory");
@@ -107,7 +126,11 @@ fn refused<R: Abort + AllocGlobal, L: Ledger, M: Ledger>(
 }
 
 // Rows on the flat image of three words, of 96 bytes, with bytes of it changed, and the reason to refuse it.
-fn changes<R: Abort + AllocGlobal, L: Ledger, M: Ledger>(rt: &R, steps: &mut Steps<L>, applies: &mut Steps<M>) {
+fn changes<R: Abort + AllocGlobal, L: Ledger, M: Ledger>(
+    rt: &R,
+    steps: &mut Steps<L>,
+    applies: &mut Steps<M>,
+) {
     let rows: [(&[(usize, u8)], u8); 20] = [
         (&[(0, 0)], 2),
         (&[(4, 2)], 3),
@@ -137,7 +160,11 @@ fn changes<R: Abort + AllocGlobal, L: Ledger, M: Ledger>(rt: &R, steps: &mut Ste
 }
 
 // Rows on the first bytes of that image, on zero bytes, and on images of two program headers.
-fn lengths<R: Abort + AllocGlobal, L: Ledger, M: Ledger>(rt: &R, steps: &mut Steps<L>, applies: &mut Steps<M>) {
+fn lengths<R: Abort + AllocGlobal, L: Ledger, M: Ledger>(
+    rt: &R,
+    steps: &mut Steps<L>,
+    applies: &mut Steps<M>,
+) {
     let alloc = rt.alloc();
     let three = flat(alloc, &THREE).expect(rt, "ample memory");
     for (len, reason) in [(0, 1), (51, 1), (52, 8), (83, 8), (84, 10), (95, 10)] {

@@ -2,3 +2,4 @@ mod Numerals
 mod Retold
 mod ByStatus
 mod Runs
+mod Chains

@@ -1,17 +1,12 @@
 -- A run that has ended is the run after any greater number of instructions.
-use Rattle.std.proofs.Common.{◌≡◌, ℕ, zero, suc, ◌+◌, ◌%◌, ◌^◌, ◌<◌, ◌≤◌, List, [], length, Bool, true, false, Option, None, Some, refl, sym, ap, ◌∙◌, subst, arith}
-use Rattle.std.specs.Prelude.{is_none, nat_lt}
-use Rattle.std.proofs.lemmas.Bool.Decides.{nat_tests}
+use Rattle.std.proofs.Common.{◌≡◌, ℕ, zero, suc, ◌<◌, ◌≤◌, List, [], ◌∷◌, length, true, false, Bool, None, Some, refl, sym, ap, ◌∙◌, arith}
+use Rattle.std.specs.Prelude.{is_none, slice_get, if◌then◌else◌}
 use Rattle.elf_load.specs.Image.{LoadedImage}
-use Rattle.elf_load.specs.Meaning.{image_of}
-use Rattle.elf_load.specs.Refusal.{first_refusal}
-use Rattle.rv_isa.specs.Instruction.{State, instruction, completed}
+use Rattle.rv_isa.specs.Effects.{retired_at}
+use Rattle.rv_isa.specs.Instruction.{State, instruction}
 use Rattle.rv_isa.specs.Runs.{EndedRun, IsTrace, after, reset}
-use Rattle.avf_tool.specs.Answers.{Answer, Text, image_limit, on_image, ram_size, run_on, run_told, unless_refused}
-use Rattle.avf_tool.specs.Texts.{run_text, trace_text}
-
-modulo : (n : ℕ) → n < 2 ^ 32 → n % 2 ^ 32 ≡ n
-modulo n h = grind arith
+use Rattle.rv_isa.specs.declared.effect.Retired.{Retired}
+use Rattle.avf_tool.specs.Runs.{ended_run, recorded, run_to}
 
 -- a run that has ended stays
 stays : (image : LoadedImage) (n : ℕ) (at : State) → is_none at.stop ≡ false → after image n at ≡ at
@@ -34,46 +29,50 @@ reached image zero (suc n) at le h = absurd (omega (arith, le))
 reached image (suc more) (suc n) at le h =
     further image more n at (is_none at.stop) refl (reached image more n (instruction image at) (omega (arith, le))) h
 
--- a run that goes on counts each instruction, below 2 ^ 32
-counted : (image : LoadedImage) (n : ℕ) (at : State) → at.count + n < 2 ^ 32 → ((i : ℕ) → i < n → (after image i at).stop ≡ None) → (after image n at).count ≡ at.count + n
-unfolding after instruction completed
-counted image zero at fits going = omega arith
-counted image (suc n) at fits going =
-    let first : at.stop ≡ None = going 0 (omega arith) in
-    let later : (i : ℕ) → i < n → (after image i (instruction image at)).stop ≡ None =
-    λ i h. rw first at (going (suc i) (omega (arith, h))) in
-    let one : (instruction image at).count ≡ at.count + 1 = modulo (at.count + 1) (omega (arith, fits)) in
-    let rest : (after image n (instruction image at)).count ≡ (instruction image at).count + n = counted image n (instruction image at) (rw one (omega (arith, fits))) later in
-    rw first (rest ∙ ap (λ k. k + n) one ∙ omega arith)
+goes : (image : LoadedImage) (i : ℕ) (at : State) → at.stop ≡ None → after image (suc i) at ≡ after image i (instruction image at)
+unfolding after
+goes image i at h = ap (λ o. if is_none o then after image i (instruction image at) else at) h
 
--- what `run` tells of a trace within the budget
-traced : (image : LoadedImage) (budget : ℕ) (run : EndedRun) → length run.entries ≤ budget → budget < 2 ^ 32 → IsTrace image [] run
-    → run_on image budget ≡ Text (run_text run.output run.end (length run.entries))
-unfolding reset
-traced image budget run le fits trace =
+some_is : {A : Type 0} (x y : A) → Some x ≡ Some y → x ≡ y
+some_is x y e = cc
+
+-- what is recorded up to the end is the trace's list of instructions
+entries_are : (image : LoadedImage) (more : ℕ) (at : State) (entries : List Retired) → length entries ≤ more
+    → ((i : ℕ) → i < length entries → slice_get entries i ≡ Some (retired_at image (after image i at)))
+    → ((i : ℕ) → i < length entries → (after image i at).stop ≡ None)
+    → is_none (after image (length entries) at).stop ≡ false
+    → recorded image more at ≡ entries
+unfolding after recorded
+entries_are image zero at [] le retired going over = refl
+entries_are image (suc more) at [] le retired going over = rw over refl
+entries_are image zero at (e ∷ es) le retired going over = absurd (omega (arith, le))
+entries_are image (suc more) at (e ∷ es) le retired going over =
+    let first : at.stop ≡ None = going 0 (omega arith) in
+    let head : retired_at image at ≡ e = sym (some_is e (retired_at image at) (retired 0 (omega arith))) in
+    let tail : recorded image more (instruction image at) ≡ es =
+    entries_are image more (instruction image at) es (omega (arith, le))
+    (λ i h. retired (suc i) (omega (arith, h)) ∙ ap (λ s. Some (retired_at image s)) (goes image i at first))
+    (λ i h. ap (λ s. s.stop) (sym (goes image i at first)) ∙ going (suc i) (omega (arith, h)))
+    (ap (λ s. is_none s.stop) (sym (goes image (length es) at first)) ∙ over) in
+    ap (λ o. if is_none o then retired_at image at ∷ recorded image more (instruction image at) else []) first
+    ∙ ap (λ x. x ∷ recorded image more (instruction image at)) head
+    ∙ ap (λ l. e ∷ l) tail
+
+-- a trace within the budget is the run
+pub traced : (image : LoadedImage) (budget : ℕ) (run : EndedRun) → length run.entries ≤ budget → IsTrace image [] run → ended_run image budget ≡ Some run
+unfolding ended_run
+traced image budget run le trace =
     let last : State = after image (length run.entries) (reset image []) in
     let over : is_none last.stop ≡ false = ap is_none trace.ends in
-    let count : last.count ≡ length run.entries = counted image (length run.entries) (reset image []) (omega (arith, le, fits)) trace.running ∙ omega arith in
     let same : after image budget (reset image []) ≡ last = reached image budget (length run.entries) (reset image []) le over in
-    ap (λ s. run_told s.stop s) same
-    ∙ ap (λ e. run_told e last) trace.ends
-    ∙ ap (λ n. Text (run_text last.log.output run.end n)) count
-    ∙ ap (λ o. Text (run_text o run.end (length run.entries))) trace.puts
+    let stop : (after image budget (reset image [])).stop ≡ Some run.end = ap (λ s. s.stop) same ∙ trace.ends in
+    let output : (after image budget (reset image [])).log.output ≡ run.output = ap (λ s. s.log.output) same ∙ trace.puts in
+    let entries : recorded image budget (reset image []) ≡ run.entries = entries_are image budget (reset image []) run.entries le trace.retired trace.running over in
+    ap (run_to image budget) stop
+    ∙ ap (λ o. Some (record { entries = recorded image budget (reset image []); output = o; end = run.end })) output
+    ∙ ap (λ l. Some (record { entries = l; output = run.output; end = run.end })) entries
 
--- an image that isn't refused goes on
-on_loaded : (contents : List ℕ) (next : LoadedImage → Answer) → length contents ≤ image_limit → first_refusal contents ram_size ≡ None
-    → on_image contents next ≡ next (image_of contents ram_size)
-on_loaded contents next fits fine =
-    let short : nat_lt image_limit (length contents) ≡ false = grind (arith, nat_tests) in
-    rw short (rw fine refl)
-
--- the text of a trace is what `run` answers
-pub told : (contents text : List ℕ) (image : LoadedImage) (budget : ℕ) (run : EndedRun) → length contents ≤ image_limit
-    → (first_refusal contents ram_size ≡ None) × (image ≡ image_of contents ram_size)
-    → (length run.entries ≤ budget) × IsTrace image [] run → budget < 2 ^ 32
-    → text ≡ trace_text run → on_image contents (λ loaded. run_on loaded budget) ≡ Text text
-told contents text image budget run fits loaded ran below e =
-    on_loaded contents (λ i. run_on i budget) fits loaded.0
-    ∙ ap (λ i. run_on i budget) (sym loaded.1)
-    ∙ traced image budget run ran.0 below ran.1
-    ∙ ap Text (sym e)
+-- a run that the budget doesn't end
+pub endless : (image : LoadedImage) (budget : ℕ) → (after image budget (reset image [])).stop ≡ None → ended_run image budget ≡ None
+unfolding ended_run
+endless image budget h = ap (run_to image budget) h

@@ -1,17 +1,16 @@
 -- What each command answers for the contents of its file.
-use Rattle.std.specs.Prelude.{◌≡◌, ◌<◌, ◌≤◌, Vec, ℕ, List, [], length, Option, Some, None, IfSome, Result, Ok, Err, nat_lt, if◌then◌else◌, ⊤}
+use Rattle.std.specs.Prelude.{◌≡◌, ◌<◌, ◌≤◌, Vec, ℕ, List, length, Option, Some, None, IfSome, Result, Ok, Err, nat_lt, if◌then◌else◌, ⊤}
 use Rattle.std.specs.declared.alloc.Global.{Global}
 use Rattle.avf_base.specs.Causes.{Rose}
 use Rattle.avf_base.specs.Refusals.{Cause, ByWords, ByShelf, ByContents, ByOut, Free, cause_of}
-use Rattle.avf_base.specs.declared.end.End.{End}
 use Rattle.avf_base.specs.declared.refusal.Refusal.{Refusal}
 use Rattle.avf_base.specs.declared.refusal.Refusal.TheVariants.{BadImage, NoEnd, OutOfMemory}
 use Rattle.elf_load.specs.Image.{LoadedImage}
 use Rattle.elf_load.specs.Meaning.{image_of}
 use Rattle.elf_load.specs.Refusal.{first_refusal}
-use Rattle.rv_isa.specs.Instruction.{State}
-use Rattle.rv_isa.specs.Runs.{EndedRun, IsTrace, after, reset}
-use Rattle.avf_tool.specs.Texts.{run_text}
+use Rattle.rv_isa.specs.Runs.{EndedRun}
+use Rattle.avf_tool.specs.Runs.{ended_run}
+use Rattle.avf_tool.specs.Texts.{trace_text}
 use Rattle.avf_tool.specs.Words.{Job, Run}
 
 -- a text, or a refusal
@@ -36,14 +35,17 @@ on_image contents next =
     if nat_lt image_limit (length contents) then Refused (BadImage 13)
     else unless_refused (first_refusal contents ram_size) (next (image_of contents ram_size))
 
--- how a run is told, from the state in which it stands
-abbrev pub run_told : Option End → State → Answer
-run_told (Some end) state = Text (run_text state.log.output end state.count)
-run_told None state = Refused NoEnd
+abbrev pub unless_endless : Option EndedRun → (EndedRun → Answer) → Answer
+unless_endless (Some run) next = next run
+unless_endless None next = Refused NoEnd
 
--- `run` on an image: at most so many instructions from reset
+-- what every command on a run goes on with: the run of the image from reset, in at most so many instructions
+abbrev pub on_run : LoadedImage → ℕ → (EndedRun → Answer) → Answer
+on_run image budget next = unless_endless (ended_run image budget) next
+
+-- `run` on an image
 abbrev pub run_on : LoadedImage → ℕ → Answer
-run_on image budget = run_told (after image budget (reset image [])).stop (after image budget (reset image []))
+run_on image budget = on_run image budget (λ run. Text (trace_text run))
 
 -- what a command answers where its file holds these contents
 abbrev pub answer : Job → List ℕ → Answer
@@ -69,10 +71,10 @@ IsLoaded contents (Err (BadImage k)) = first_refusal contents ram_size ≡ Some 
 IsLoaded contents (Err OutOfMemory) = ⊤
 IsLoaded contents (Err refusal) = ⊥
 
--- the trace of an image in at most so many instructions, or that they didn't end it
+-- the run of an image in at most so many instructions, or that they didn't end it
 abbrev pub IsTraced : LoadedImage → ℕ → Result EndedRun Refusal → Type 0
-IsTraced image budget (Ok run) = (length run.entries ≤ budget) × IsTrace image [] run
-IsTraced image budget (Err NoEnd) = (after image budget (reset image [])).stop ≡ None
+IsTraced image budget (Ok run) = ended_run image budget ≡ Some run
+IsTraced image budget (Err NoEnd) = ended_run image budget ≡ None
 IsTraced image budget (Err OutOfMemory) = ⊤
 IsTraced image budget (Err refusal) = ⊥
 

@@ -1,5 +1,5 @@
 -- How a call of the tool ends.
-use Rattle.std.specs.Prelude.{◌≡◌, ◌≢◌, ◌≤◌, ℕ, List, Option, Some, None, IfSome, ◌⊎◌, ◌↔◌, Result, Ok, Err}
+use Rattle.std.specs.Prelude.{◌≡◌, ◌≢◌, ℕ, List, Option, Some, None, IfSome, ◌⊎◌, ◌↔◌, Result, Ok, Err}
 use Rattle.avf_base.specs.Causes.{Rose}
 use Rattle.avf_base.specs.Moves.{Grows, GrowsByFront}
 use Rattle.avf_base.specs.Refusals.{status_of, line_of, Cause, ByWords, ByShelf, ByContents, ByOut, Free, cause_of}

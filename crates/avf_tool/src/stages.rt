@@ -58,6 +58,7 @@ pub fn load_image(alloc: Global, contents: &[u8]) -> Result<Image, Refusal>
 }
 
 /// The trace of an image in at most `budget` instructions.
+#[tactic(auto, using(crate::proofs::Runs::traced, crate::proofs::Runs::endless))]
 pub fn trace_image<M: Ledger>(
     alloc: Global,
     image: &Image,
