@@ -1,2 +1,4 @@
+pub mod Arrays
 pub mod Bits
 pub mod Low
+pub mod Rows

@@ -1,0 +1,2 @@
+// The instruction buffer.
+#![tactic(auto)]

@@ -1,0 +1,2 @@
+// The branch predictor.
+#![tactic(auto)]
