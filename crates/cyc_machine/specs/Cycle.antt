@@ -1,8 +1,10 @@
 -- One cycle of the machine: each structure's next value, main memory, and what is reported, from the whole old state.
 use Rattle.std.specs.Prelude.{ℕ, ◌+◌, ◌/◌, ◌%◌, ◌^◌, ◌&&◌, ◌||◌, Bool, true, false, is_some, if◌then◌else◌, List, Option, Some, None}
 use Rattle.avf_base.specs.declared.end.End.{End}
+use Rattle.rv_table.specs.Accesses.{lane_mask, load_size}
 use Rattle.rv_table.specs.Effects.{byte_put}
 use Rattle.rv_table.specs.declared.action.Action.{Action}
+use Rattle.rv_table.specs.declared.action.Action.TheVariants.{Nothing, Writes, Loads, Stores, Puts, Exits, Traps}
 use Rattle.rv_isa.specs.Instruction.{end_of}
 use Rattle.pipe_latch.specs.LatchedActions.{action_of}
 use Rattle.inst_buf.specs.Entries.{entries, packed as packed_entries}
@@ -75,13 +77,18 @@ abbrev pub issued_by : Fate → State → Option ℕ
 issued_by (Goes a b) s = Some s.d.pc
 issued_by _ s = None
 
+-- the lanes that a load takes
+abbrev pub lanes_of : Action → ℕ
+lanes_of (Loads kind rd x) = lane_mask (load_size kind) x
+lanes_of _ = 0
+
 -- whether an occupied EX/MEM is left
 abbrev pub retires : State → Bool
 retires s = s.m.valid && (served_m s).goes
 
 abbrev pub event_of : Move → State → Option CacheEvent
 event_of (Reads word way) s =
-    Some (record { cycle = s.cycle; kind = Read; line = word / 4; set = set_of s.cache.shape (word / 4); way = way; mask = mask_of (action_in_m s); word = word % 4 })
+    Some (record { cycle = s.cycle; kind = Read; line = word / 4; set = set_of s.cache.shape (word / 4); way = way; mask = lanes_of (action_in_m s); word = word % 4 })
 event_of (Drains e way) s =
     Some (record { cycle = s.cycle; kind = Write; line = e.addr / 4; set = set_of s.cache.shape (e.addr / 4); way = way; mask = e.mask; word = e.addr % 4 })
 event_of (Misses line way count owner) s =

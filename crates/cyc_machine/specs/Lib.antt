@@ -1,0 +1,4 @@
+pub mod Cycle
+pub mod Memory
+pub mod Pipeline
+pub mod State
