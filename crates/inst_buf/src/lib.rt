@@ -1,2 +1,0 @@
-// The instruction buffer.
-#![tactic(auto)]
