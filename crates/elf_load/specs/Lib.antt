@@ -1,1 +1,5 @@
 pub mod Image
+pub mod Headers
+pub mod Meaning
+pub mod Refusal
+pub mod Answers

@@ -1,0 +1,119 @@
+//! The file header and the program headers of an ELF32 file.
+ghost use Rattle.std.specs.Prelude.{◌≡◌, ◌+◌, ◌*◌, ◌<◌, ◌≤◌, length};
+ghost use Rattle.elf_load.specs.Headers as spec;
+ghost use Rattle.elf_load.specs.Refusal as refusal;
+
+use byteorder::{ByteOrder, LittleEndian};
+
+/// A program header, without its physical address and its alignment.
+#[derive(Clone, Copy)]
+pub struct ProgramHeader {
+    /// 1 for a loadable segment, 3 for an interpreter's name.
+    pub kind: u32,
+    /// The offset in the file of the segment's first byte.
+    pub offset: u32,
+    /// The byte address of the segment's first byte.
+    pub vaddr: u32,
+    /// How many bytes of the segment the file holds.
+    pub filesz: u32,
+    /// How many bytes the segment has in memory.
+    pub memsz: u32,
+    /// Bit 0: its bytes are instructions.
+    pub flags: u32,
+}
+
+#[tactic(auto, unfolding(crate::specs::Headers::half_at))]
+/// The 16-bit field at an offset.
+pub fn half_at(file: &[u8], offset: usize) -> u16
+    requires { offset + 2 ≤ length file.now }
+    ensures { result ≡ spec.half_at file.now offset }
+{
+    LittleEndian::read_u16(&file[offset..])
+}
+
+#[tactic(auto, unfolding(crate::specs::Headers::word_at))]
+/// The 32-bit field at an offset.
+pub fn word_at(file: &[u8], offset: usize) -> u32
+    requires { offset + 4 ≤ length file.now }
+    ensures { result ≡ spec.word_at file.now offset }
+{
+    LittleEndian::read_u32(&file[offset..])
+}
+
+#[tactic(auto, unfolding(crate::specs::Headers::program_header))]
+/// The program header at an offset.
+pub fn program_header(file: &[u8], at: usize) -> ProgramHeader
+    requires { at + 32 ≤ length file.now }
+    ensures { result ≡ spec.program_header file.now at }
+{
+    ProgramHeader {
+        kind: word_at(file, at),
+        offset: word_at(file, at + 4),
+        vaddr: word_at(file, at + 8),
+        filesz: word_at(file, at + 16),
+        memsz: word_at(file, at + 20),
+        flags: word_at(file, at + 24),
+    }
+}
+
+#[tactic(auto, unfolding(crate::specs::Refusal::lacks_magic))]
+/// Whether the file doesn't begin with 7F 45 4C 46.
+fn lacks_magic(file: &[u8]) -> bool
+    requires { 52 ≤ length file.now }
+    ensures { result ≡ refusal.lacks_magic file.now }
+{
+    !(file[0] == 0x7F && file[1] == 0x45 && file[2] == 0x4C && file[3] == 0x46)
+}
+
+#[tactic(auto, unfolding(crate::specs::Refusal::has_other_class))]
+/// Whether the file isn't of 32 bits, little-endian and of version 1.
+fn has_other_class(file: &[u8]) -> bool
+    requires { 52 ≤ length file.now }
+    ensures { result ≡ refusal.has_other_class file.now }
+{
+    !(file[4] == 1 && file[5] == 1 && file[6] == 1)
+}
+
+#[tactic(auto, unfolding(crate::specs::Refusal::has_other_sizes))]
+/// Whether the file's headers have other sizes than 52 and 32 bytes.
+fn has_other_sizes(file: &[u8]) -> bool
+    requires { 52 ≤ length file.now }
+    ensures { result ≡ refusal.has_other_sizes file.now }
+{
+    !(half_at(file, 40) == 52 && half_at(file, 42) == 32)
+}
+
+#[tactic(auto, unfolding(crate::specs::Refusal::lacks_headers, crate::specs::Headers::headers_offset, crate::specs::Headers::headers_count))]
+/// Whether the program headers end past the file.
+fn lacks_headers(file: &[u8]) -> bool
+    requires { 52 ≤ length file.now }
+    ensures { result ≡ refusal.lacks_headers file.now }
+{
+    file.len() < word_at(file, 28) as usize + 32 * half_at(file, 44) as usize
+}
+
+#[tactic(auto, unfolding(crate::specs::Refusal::file_refusal, crate::specs::Refusal::is_short, crate::specs::Refusal::has_other_type, crate::specs::Refusal::has_other_machine, crate::specs::Refusal::is_compressed))]
+/// The first of the reasons 1 to 8, which concern the file header, that stands.
+pub fn file_refusal(file: &[u8]) -> Option<u8>
+    ensures { result ≡ refusal.file_refusal file.now }
+{
+    if file.len() < 52 {
+        Some(1)
+    } else if lacks_magic(file) {
+        Some(2)
+    } else if has_other_class(file) {
+        Some(3)
+    } else if half_at(file, 16) != 2 {
+        Some(4)
+    } else if half_at(file, 18) != 243 {
+        Some(5)
+    } else if word_at(file, 36) % 2 == 1 {
+        Some(6)
+    } else if has_other_sizes(file) {
+        Some(7)
+    } else if lacks_headers(file) {
+        Some(8)
+    } else {
+        None
+    }
+}
