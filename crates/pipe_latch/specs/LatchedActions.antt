@@ -49,3 +49,8 @@ action_by_kind m =
 -- an invalid latch does nothing
 unfoldable pub action_of : ExecutedLatch → Action
 action_of m = if m.valid then action_by_kind m else Nothing
+
+-- the number of the trap that an action is, else 0
+abbrev pub trap_number : Action → ℕ
+trap_number (Traps cause) = cause
+trap_number _ = 0

@@ -1,0 +1,4 @@
+pub mod Actions
+pub mod Latches
+pub mod Operands
+pub mod Settled
