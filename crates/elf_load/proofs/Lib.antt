@@ -1,1 +1,3 @@
 pub mod Executable
+pub mod FileHeader
+pub mod Walking

@@ -3,3 +3,4 @@ pub mod Headers
 pub mod Meaning
 pub mod Refusal
 pub mod Answers
+pub mod Walk

@@ -5,6 +5,7 @@ pub mod error;
 mod headers;
 pub mod image;
 pub mod segment;
+mod walk;
 
 pub use error::LoadError;
 pub use image::Image;
