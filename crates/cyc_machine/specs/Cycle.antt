@@ -7,15 +7,19 @@ use Rattle.rv_table.specs.declared.action.Action.{Action}
 use Rattle.rv_table.specs.declared.action.Action.TheVariants.{Nothing, Writes, Loads, Stores, Puts, Exits, Traps}
 use Rattle.rv_isa.specs.Instruction.{end_of}
 use Rattle.pipe_latch.specs.LatchedActions.{action_of}
-use Rattle.inst_buf.specs.Entries.{entries, packed as packed_entries}
+use Rattle.inst_buf.specs.Buffer.{entries, packed as packed_entries}
 use Rattle.predictor.specs.Tables.{Tables, predicted, trained}
 use Rattle.store_buf.specs.Entry.{Entry as Pending}
 use Rattle.store_buf.specs.Pending.{packed as packed_stores, pending}
 use Rattle.wb_cache.specs.Lookup.{set_of}
 use Rattle.wb_cache.specs.declared.event.CacheEvent.{CacheEvent}
 use Rattle.wb_cache.specs.declared.event.EventKind.TheVariants.{Read, Write, Miss, Fill}
-use Rattle.cyc_machine.specs.Memory.{Move, Rests, Reads, Drains, Misses, Waits, Leaves, Fills, Served, cache_after, load_client, memory_after, move_of, port_after, result_after, served, store_client, stores_after}
-use Rattle.cyc_machine.specs.Pipeline.{Fate, Absent, Dropped, Stays, Goes, decoded_after, entries_after, executed_after, fate_of, issued_after, lesson, npc_after, pc_after, written_registers}
+use Rattle.cyc_machine.specs.declared.port.Move.{Move}
+use Rattle.cyc_machine.specs.declared.port.Move.TheVariants.{Rests, Reads, Drains, Misses, Waits, Leaves, Fills}
+use Rattle.cyc_machine.specs.declared.fate.Fate.{Fate}
+use Rattle.cyc_machine.specs.declared.fate.Fate.TheVariants.{Absent, Dropped, Stays, Goes}
+use Rattle.cyc_machine.specs.Memory.{Served, cache_after, load_client, memory_after, move_of, port_after, result_after, served, store_client, stores_after}
+use Rattle.cyc_machine.specs.Pipeline.{decoded_after, entries_after, executed_after, fate_of, issued_after, lesson, npc_after, pc_after, written_registers}
 use Rattle.cyc_machine.specs.State.{State}
 
 -- what M does in this cycle

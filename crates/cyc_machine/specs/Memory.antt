@@ -13,15 +13,13 @@ use Rattle.store_buf.specs.Pending.{oldest, younger}
 use Rattle.store_buf.specs.Covers.{covered}
 use Rattle.store_buf.specs.declared.cover.Cover.{Cover}
 use Rattle.store_buf.specs.declared.cover.Cover.TheVariants.{Full, Part, None as Uncovered}
+use Rattle.cyc_machine.specs.PortState.{PortState}
+use Rattle.cyc_machine.specs.declared.port.Move.{Move}
+use Rattle.cyc_machine.specs.declared.port.Move.TheVariants.{Rests, Reads, Drains, Misses, Waits, Leaves, Fills}
 use Rattle.wb_cache.specs.Contents.{Contents, slots}
 use Rattle.wb_cache.specs.Lookup.{set_of}
 use Rattle.wb_cache.specs.Access.{found, read, word_at, written}
 use Rattle.wb_cache.specs.Refill.{memory_refilled, refilled, way_for}
-
--- The port of the cache: how many cycles its client must still wait, and whether that is the store client.
-pub record PortState : Type 0 where
-  pub count : ℕ
-  pub owner : Bool
 
 -- Clients.
 
@@ -46,16 +44,6 @@ unfoldable pub store_client : LoadedImage → List Entry → Option Entry
 store_client image stores = in_ram_entry image (oldest stores)
 
 -- The port.
-
--- What the port does in a cycle, and with which way.
-pub data Move : Type 0 where
-  Rests : Move
-  Reads : (word : ℕ) → (way : ℕ) → Move
-  Drains : (entry : Entry) → (way : ℕ) → Move
-  Misses : (line : ℕ) → (way : ℕ) → (count : ℕ) → (owner : Bool) → Move
-  Waits : Move
-  Leaves : Move
-  Fills : (line : ℕ) → (way : ℕ) → Move
 
 abbrev pub is_dirty_victim : Contents → ℕ → Bool
 is_dirty_victim c line = (slots c (set_of c.shape line) (way_for c line)).valid && (slots c (set_of c.shape line) (way_for c line)).dirty

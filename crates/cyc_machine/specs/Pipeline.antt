@@ -1,5 +1,5 @@
 -- The pipeline in one cycle: what becomes of ID/EX, and the next value of each part by one equation over the old state.
-use Rattle.std.specs.Prelude.{ℕ, ◌+◌, ◌-◌, ◌==◌, ◌&&◌, Bool, true, false, nat_le, nat_lt, if◌then◌else◌, List, [], ◌∷◌, ◌++◌, length, Option, Some, None, pred, slice_index, slice_set}
+use Rattle.std.specs.Prelude.{ℕ, ◌+◌, ◌-◌, ◌==◌, ◌&&◌, Bool, true, false, nat_le, nat_lt, if◌then◌else◌, List, [], ◌∷◌, ◌++◌, length, Option, Some, None, pred, drop, slice_get, slice_index, slice_set}
 use Rattle.elf_load.specs.Image.{LoadedImage, fetch}
 use Rattle.rv_table.specs.Actions.{is_counter, with_counter}
 use Rattle.rv_table.specs.Words.{decode}
@@ -10,7 +10,10 @@ use Rattle.pipe_latch.specs.Forwarding.{late, operand}
 use Rattle.pipe_latch.specs.Execution.{executed, learned, next_of}
 use Rattle.pipe_latch.specs.declared.forward.Forwarded.{Forwarded}
 use Rattle.pipe_latch.specs.declared.forward.Forwarded.TheVariants.{Value, Wait}
+use Rattle.rv_isa.specs.Instruction.{next_count}
 use Rattle.inst_buf.specs.Entry.{Entry}
+use Rattle.cyc_machine.specs.declared.fate.Fate.{Fate}
+use Rattle.cyc_machine.specs.declared.fate.Fate.TheVariants.{Absent, Dropped, Stays, Goes}
 
 -- the register file: registers 1 to 31 in order
 unfoldable pub register : List ℕ → ℕ → ℕ
@@ -21,13 +24,6 @@ unfoldable pub written_registers : ResultLatch → List ℕ → List ℕ
 written_registers w registers = if w.rd == 0 then registers else slice_set registers (w.rd - 1) w.value
 
 -- EX.
-
--- What becomes of ID/EX in a cycle: there is nothing, it is dropped as mispredicted, it stays, or it goes with its operands.
-pub data Fate : Type 0 where
-  Absent : Fate
-  Dropped : Fate
-  Stays : Fate
-  Goes : (a : ℕ) → (b : ℕ) → Fate
 
 abbrev pub goes_with : Forwarded → Forwarded → Fate
 goes_with (Value a) (Value b) = Goes a b
@@ -61,7 +57,7 @@ npc_after (Goes a b) d cycle issued npc = next_of d a (counted d cycle issued b)
 npc_after _ d cycle issued npc = npc
 
 unfoldable pub issued_after : Fate → ℕ → ℕ
-issued_after (Goes a b) issued = issued + 1
+issued_after (Goes a b) issued = next_count issued
 issued_after _ issued = issued
 
 -- what the predictor learns in this cycle: the address, whether it was taken, and where it went
@@ -101,9 +97,9 @@ decoded e w registers =
     }
 
 -- D once the first entry is taken, or no D where there is none
-abbrev pub taken : List Entry → ResultLatch → List ℕ → DecodedLatch
-taken [] w registers = no_decoded
-taken (e ∷ es) w registers = decoded e w registers
+abbrev pub taken : Option Entry → ResultLatch → List ℕ → DecodedLatch
+taken None w registers = no_decoded
+taken (Some e) w registers = decoded e w registers
 
 -- D that stays takes the late values, and waits one cycle less
 abbrev pub stalled : DecodedLatch → ResultLatch → DecodedLatch
@@ -112,19 +108,15 @@ stalled d w = record d { a = late w d.rs1 d.a; b = late w d.rs2 d.b; count = pre
 unfoldable pub decoded_after : Fate → DecodedLatch → List Entry → ResultLatch → List ℕ → DecodedLatch
 decoded_after Dropped d entries w registers = no_decoded
 decoded_after Stays d entries w registers = stalled d w
-decoded_after _ d entries w registers = taken entries w registers
+decoded_after _ d entries w registers = taken (slice_get entries 0) w registers
 
 -- IF.
-
-abbrev pub others : List Entry → List Entry
-others [] = []
-others (e ∷ es) = es
 
 -- the entries that remain after ID
 unfoldable pub remaining : Fate → List Entry → List Entry
 remaining Dropped entries = []
 remaining Stays entries = entries
-remaining _ entries = others entries
+remaining _ entries = drop 1 entries
 
 abbrev pub entry_of_word : ℕ → Option ℕ → Entry
 entry_of_word pc (Some word) = record { valid = true; fault = false; pc = pc; word = word }
@@ -140,9 +132,9 @@ filled image pc entries = if nat_lt (length entries) 4 then entries ++ fetched i
 
 unfoldable pub entries_after : LoadedImage → Fate → ℕ → List Entry → List Entry
 entries_after image Dropped pc entries = []
-entries_after image Absent pc entries = filled image pc (others entries)
+entries_after image Absent pc entries = filled image pc (drop 1 entries)
 entries_after image Stays pc entries = filled image pc entries
-entries_after image (Goes a b) pc entries = filled image pc (others entries)
+entries_after image (Goes a b) pc entries = filled image pc (drop 1 entries)
 
 -- `predicted`: the predicted next address
 unfoldable pub pc_after : Fate → ℕ → List Entry → ℕ → ℕ → ℕ

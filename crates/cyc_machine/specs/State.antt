@@ -8,7 +8,7 @@ use Rattle.inst_buf.specs.Entry.{Entry as Fetched, no_entry as no_fetched}
 use Rattle.predictor.specs.Tables.{Tables, fresh_tables}
 use Rattle.store_buf.specs.Entry.{Entry as Pending, no_entry as no_pending}
 use Rattle.wb_cache.specs.Contents.{Contents, empty_contents}
-use Rattle.cyc_machine.specs.Memory.{PortState}
+use Rattle.cyc_machine.specs.PortState.{PortState}
 
 pub record State : Type 0 where
   pub image : LoadedImage
