@@ -1,0 +1,17 @@
+-- The sizes that a shape gives.
+use Rattle.std.proofs.Common.{◌≡◌, ◌⊎◌, ℕ, ◌+◌, ◌-◌, ◌*◌, ◌<◌, ◌≤◌, arith}
+use Rattle.bit_field.specs.declared.shapes.Shape.{Shape}
+use Rattle.bit_field.specs.Shapes.{IsShape, slots as slot_count, tag_bits}
+use Rattle.wb_cache.specs.Contents.{slot_of}
+
+slot_below_by : (sets ways set way : ℕ) → (ways ≡ 1) ⊎ (ways ≡ 2) ⊎ (ways ≡ 4) → set < sets → way < ways → ways * set + way < sets * ways
+slot_below_by sets ways set way w h l = grind arith
+
+pub slot_below : (s : Shape) (set way : ℕ) → IsShape s → set < s.sets → way < s.ways → slot_of s set way < slot_count s
+slot_below s set way shape h l = slot_below_by s.sets s.ways set way shape.ways h l
+
+slots_most_by : (sets ways : ℕ) → (sets ≡ 16) ⊎ (sets ≡ 32) ⊎ (sets ≡ 64) ⊎ (sets ≡ 128) → (ways ≡ 1) ⊎ (ways ≡ 2) ⊎ (ways ≡ 4) → sets * ways ≤ 512
+slots_most_by sets ways p q = grind arith
+
+pub slots_most : (s : Shape) → IsShape s → slot_count s ≤ 512
+slots_most s shape = slots_most_by s.sets s.ways shape.sets shape.ways
