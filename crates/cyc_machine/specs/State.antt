@@ -7,7 +7,7 @@ use Rattle.pipe_latch.specs.Latches.{DecodedLatch, ExecutedLatch, ResultLatch, n
 use Rattle.inst_buf.specs.Entry.{Entry as Fetched, no_entry as no_fetched}
 use Rattle.predictor.specs.Tables.{Tables, fresh_tables}
 use Rattle.store_buf.specs.Entry.{Entry as Pending, no_entry as no_pending}
-use Rattle.wb_cache.specs.Contents.{Contents, empty_contents}
+use Rattle.wb_cache.specs.Contents.{Contents, empty as empty_cache}
 use Rattle.cyc_machine.specs.PortState.{PortState}
 
 pub record State : Type 0 where
@@ -43,7 +43,7 @@ reset image shape =
       registers = replicate 31 0;
       stores = replicate 4 no_pending;
       port = record { count = 0; owner = false };
-      cache = empty_contents shape;
+      cache = empty_cache shape;
       memory = image.ram;
       cycle = 0;
       issued = 0;
