@@ -1,5 +1,5 @@
 -- The memory side of one cycle: who asks for the cache, what the port does, and whether the memory stage is done.
-use Rattle.std.specs.Prelude.{ℕ, ◌+◌, ◌-◌, ◌/◌, ◌%◌, ◌==◌, ◌&&◌, Bool, true, false, not, nat_lt, if◌then◌else◌, List, [], ◌∷◌, ◌++◌, length, Option, Some, None, pred}
+use Rattle.std.specs.Prelude.{◌≡◌, ◌<◌, ◌^◌, ⊤, ℕ, ◌+◌, ◌-◌, ◌/◌, ◌%◌, ◌==◌, ◌&&◌, Bool, true, false, not, nat_lt, if◌then◌else◌, List, [], ◌∷◌, ◌++◌, length, Option, Some, None, pred}
 use Rattle.elf_load.specs.Image.{LoadedImage, word_in_ram}
 use Rattle.rv_table.specs.Accesses.{byte_of, lane_mask, load_size, loaded, store_size, store_word}
 use Rattle.rv_table.specs.Effects.{written_register}
@@ -18,7 +18,8 @@ use Rattle.cyc_machine.specs.declared.port.Move.{Move}
 use Rattle.cyc_machine.specs.declared.port.Move.TheVariants.{Rests, Reads, Drains, Misses, Waits, Leaves, Fills}
 use Rattle.wb_cache.specs.Contents.{Contents, slots}
 use Rattle.wb_cache.specs.Lookup.{set_of}
-use Rattle.wb_cache.specs.Access.{found, read, word_at, written}
+use Rattle.wb_cache.specs.Access.{found, read, word_of, written}
+use Rattle.cyc_machine.specs.declared.memory_stage.Served.{Served}
 use Rattle.wb_cache.specs.Refill.{memory_refilled, refilled, way_for}
 
 -- Clients.
@@ -103,12 +104,12 @@ unfoldable pub memory_after : LoadedImage → Move → Contents → List ℕ →
 memory_after image (Fills line way) c memory = memory_refilled image line c memory
 memory_after image _ c memory = memory
 
--- The memory stage.
+-- the word that the port reads for the load client
+unfoldable pub word_read : Move → Contents → Option ℕ
+word_read (Reads word way) c = word_of c (word / 4) (word % 4)
+word_read _ c = None
 
--- whether M leaves in this cycle, and the value for its register
-pub record Served : Type 0 where
-  pub goes : Bool
-  pub value : ℕ
+-- The memory stage.
 
 abbrev pub served_by : Option ℕ → Served
 served_by (Some value) = record { goes = true; value = value }
@@ -118,32 +119,31 @@ served_by None = record { goes = false; value = 0 }
 abbrev pub loaded_of : LoadKind → ℕ → ℕ → ℕ
 loaded_of kind x word = loaded kind x (λ p. byte_of word (p % 4))
 
--- the value of a load that the port serves
-abbrev pub read_value : Move → Contents → LoadKind → ℕ → Option ℕ
-read_value (Reads word way) c kind x =
-    Some (loaded_of kind x (word_at (slots c (set_of c.shape (word / 4)) way) (word % 4)))
-read_value _ c kind x = None
+abbrev pub value_read : Option ℕ → LoadKind → ℕ → Option ℕ
+value_read (Some word) kind x = Some (loaded_of kind x word)
+value_read None kind x = None
 
--- full cover gives the value; part of it must drain first; with none the port serves
-abbrev pub covered_value : Cover → Move → Contents → LoadKind → ℕ → Option ℕ
-covered_value (Full word) move c kind x = Some (loaded_of kind x word)
-covered_value Part move c kind x = None
-covered_value Uncovered move c kind x = read_value move c kind x
+-- full cover gives the value; a part of it must drain first; with none it is the word that the port reads, if it does
+abbrev pub covered_value : Cover → Option ℕ → LoadKind → ℕ → Option ℕ
+covered_value (Full word) read kind x = Some (loaded_of kind x word)
+covered_value Part read kind x = None
+covered_value Uncovered read kind x = value_read read kind x
 
--- the value of M's load, if it is done: 0 outside RAM
-unfoldable pub load_value : LoadedImage → LoadKind → ℕ → List Entry → Move → Contents → Option ℕ
-load_value image kind x stores move c =
-    if word_in_ram image (x / 4)
-    then covered_value (covered stores (x / 4) (lane_mask (load_size kind) x)) move c kind x
-    else Some 0
+-- the value of M's load, if it is done: 0 outside RAM; `read` is the word that the port reads
+unfoldable pub load_value : LoadedImage → LoadKind → ℕ → List Entry → Option ℕ → Option ℕ
+load_value image kind x stores read =
+    if word_in_ram image (x / 4) then covered_value (covered stores (x / 4) (lane_mask (load_size kind) x)) read kind x else Some 0
 
 -- a store is done where there is room for it, or at once outside RAM, where it is dropped
-unfoldable pub served : LoadedImage → Action → List Entry → Move → Contents → Served
-served image (Loads kind rd x) stores move c = served_by (load_value image kind x stores move c)
-served image (Stores kind x y) stores move c =
-    record { goes = if word_in_ram image (x / 4) then nat_lt (length stores) 4 else true; value = 0 }
-served image (Writes rd value) stores move c = record { goes = true; value = value }
-served image _ stores move c = record { goes = true; value = 0 }
+abbrev pub has_room : LoadedImage → ℕ → List Entry → Bool
+has_room image word stores = if word_in_ram image word then nat_lt (length stores) 4 else true
+
+-- whether M leaves, and the value for its register
+unfoldable pub served : LoadedImage → Action → List Entry → Option ℕ → Served
+served image (Loads kind rd x) stores read = served_by (load_value image kind x stores read)
+served image (Stores kind x y) stores read = record { goes = has_room image (x / 4) stores; value = 0 }
+served image (Writes rd value) stores read = record { goes = true; value = value }
+served image _ stores read = record { goes = true; value = 0 }
 
 -- the next MEM/WB
 unfoldable pub result_after : Action → Served → ResultLatch
@@ -152,9 +152,12 @@ result_after m s = if s.goes then record { rd = written_register m; value = s.va
 -- The store buffer.
 
 -- an oldest store outside RAM leaves without a write
+abbrev pub is_stray : LoadedImage → Option Entry → Bool
+is_stray image (Some e) = not (word_in_ram image e.addr)
+is_stray image None = false
+
 abbrev pub without_stray : LoadedImage → List Entry → List Entry
-without_stray image [] = []
-without_stray image (e ∷ es) = if word_in_ram image e.addr then e ∷ es else es
+without_stray image stores = if is_stray image (oldest stores) then younger stores else stores
 
 abbrev pub kept_stores : LoadedImage → Move → List Entry → List Entry
 kept_stores image (Drains e way) stores = younger stores
@@ -163,11 +166,22 @@ kept_stores image _ stores = without_stray image stores
 abbrev pub entry_of : StoreKind → ℕ → ℕ → Entry
 entry_of kind x y = record { mask = lane_mask (store_size kind) x; addr = x / 4; value = store_word kind x y }
 
--- the pending store that M's done store in RAM becomes
-unfoldable pub appended : LoadedImage → Action → List Entry → List Entry
-appended image (Stores kind x y) stores =
-    if word_in_ram image (x / 4) && nat_lt (length stores) 4 then entry_of kind x y ∷ [] else []
-appended image _ stores = []
+-- The pending store that M's done store in RAM becomes. `room` says that fewer than four were pending before the cycle.
+unfoldable pub appended : LoadedImage → Action → Bool → List Entry
+appended image (Stores kind x y) room = if room && word_in_ram image (x / 4) then entry_of kind x y ∷ [] else []
+appended image _ room = []
 
 unfoldable pub stores_after : LoadedImage → Action → Move → List Entry → List Entry
-stores_after image m move stores = kept_stores image move stores ++ appended image m stores
+stores_after image m move stores = kept_stores image move stores ++ appended image m (nat_lt (length stores) 4)
+
+-- What holds of a move.
+
+-- a line is only filled where it misses
+abbrev pub FillsMiss : Move → Contents → Type 0
+FillsMiss (Fills line way) c = (line < 2 ^ 28) × (found c line ≡ None)
+FillsMiss _ c = ⊤
+
+-- the cycles that a miss asks for
+abbrev pub move_count : Move → ℕ
+move_count (Misses line way count owner) = count
+move_count _ = 0

@@ -11,6 +11,7 @@ use Rattle.pipe_latch.specs.Execution.{executed, learned, next_of}
 use Rattle.pipe_latch.specs.declared.forward.Forwarded.{Forwarded}
 use Rattle.pipe_latch.specs.declared.forward.Forwarded.TheVariants.{Value, Wait}
 use Rattle.rv_isa.specs.Instruction.{next_count}
+use Rattle.predictor.specs.Tables.{Tables, trained}
 use Rattle.inst_buf.specs.Entry.{Entry}
 use Rattle.cyc_machine.specs.declared.fate.Fate.{Fate}
 use Rattle.cyc_machine.specs.declared.fate.Fate.TheVariants.{Absent, Dropped, Stays, Goes}
@@ -65,6 +66,10 @@ unfoldable pub lesson : Fate → DecodedLatch → ℕ → ℕ → Option (Bool �
 lesson (Goes a b) d cycle issued = learned d a (counted d cycle issued b)
 lesson _ d cycle issued = None
 
+abbrev pub trained_by : Option (Bool × ℕ) → ℕ → Tables → Tables
+trained_by (Some (taken, target)) pc tables = trained tables pc taken target
+trained_by None pc tables = tables
+
 -- ID.
 
 -- the operation of an entry: its word's, and the fetch fault's code where its fault bit is set
@@ -112,12 +117,6 @@ decoded_after _ d entries w registers = taken (slice_get entries 0) w registers
 
 -- IF.
 
--- the entries that remain after ID
-unfoldable pub remaining : Fate → List Entry → List Entry
-remaining Dropped entries = []
-remaining Stays entries = entries
-remaining _ entries = drop 1 entries
-
 abbrev pub entry_of_word : ℕ → Option ℕ → Entry
 entry_of_word pc (Some word) = record { valid = true; fault = false; pc = pc; word = word }
 entry_of_word pc None = record { valid = true; fault = true; pc = pc; word = 0 }
@@ -136,7 +135,12 @@ entries_after image Absent pc entries = filled image pc (drop 1 entries)
 entries_after image Stays pc entries = filled image pc entries
 entries_after image (Goes a b) pc entries = filled image pc (drop 1 entries)
 
--- `predicted`: the predicted next address
+-- fetching goes on at the predicted address where fewer than four entries remain
+abbrev pub if_room : ℕ → ℕ → ℕ → ℕ
+if_room remaining predicted pc = if nat_lt remaining 4 then predicted else pc
+
 unfoldable pub pc_after : Fate → ℕ → List Entry → ℕ → ℕ → ℕ
 pc_after Dropped predicted entries npc pc = npc
-pc_after fate predicted entries npc pc = if nat_lt (length (remaining fate entries)) 4 then predicted else pc
+pc_after Absent predicted entries npc pc = if_room (length (drop 1 entries)) predicted pc
+pc_after Stays predicted entries npc pc = if_room (length entries) predicted pc
+pc_after (Goes a b) predicted entries npc pc = if_room (length (drop 1 entries)) predicted pc
