@@ -1,0 +1,2 @@
+// The recorded run.
+#![tactic(auto)]
