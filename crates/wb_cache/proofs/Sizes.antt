@@ -1,7 +1,7 @@
 -- The sizes that a shape gives.
-use Rattle.std.proofs.Common.{◌≡◌, ◌⊎◌, ℕ, ◌+◌, ◌-◌, ◌*◌, ◌<◌, ◌≤◌, arith}
+use Rattle.std.proofs.Common.{◌≡◌, ◌⊎◌, ℕ, ◌+◌, ◌-◌, ◌*◌, ◌/◌, ◌^◌, ◌<◌, ◌≤◌, arith}
 use Rattle.bit_field.specs.declared.shapes.Shape.{Shape}
-use Rattle.bit_field.specs.Shapes.{IsShape, slots as slot_count, tag_bits}
+use Rattle.bit_field.specs.Shapes.{IsShape, slots as slot_count, tag_bits, index_bits}
 use Rattle.wb_cache.specs.Contents.{slot_of}
 
 slot_below_by : (sets ways set way : ℕ) → (ways ≡ 1) ⊎ (ways ≡ 2) ⊎ (ways ≡ 4) → set < sets → way < ways → ways * set + way < sets * ways
@@ -15,3 +15,17 @@ slots_most_by sets ways p q = grind arith
 
 pub slots_most : (s : Shape) → IsShape s → slot_count s ≤ 512
 slots_most s shape = slots_most_by s.sets s.ways shape.sets shape.ways
+
+tag_below_by : (sets line : ℕ) → (sets ≡ 16) ⊎ (sets ≡ 32) ⊎ (sets ≡ 64) ⊎ (sets ≡ 128) → line < 2 ^ 28 → line / sets < 2 ^ (28 - index_bits sets)
+tag_below_by sets line p h = grind arith
+
+-- the tag of a line has its width
+pub tag_below : (s : Shape) (line : ℕ) → IsShape s → line < 2 ^ 28 → line / s.sets < 2 ^ tag_bits s
+tag_below s line shape h = tag_below_by s.sets line shape.sets h
+
+line_below_by : (sets set tag : ℕ) → (sets ≡ 16) ⊎ (sets ≡ 32) ⊎ (sets ≡ 64) ⊎ (sets ≡ 128) → set < sets → tag < 2 ^ (28 - index_bits sets) → sets * tag + set < 2 ^ 28
+line_below_by sets set tag p h l = grind arith
+
+-- the line of a set and a tag
+pub line_below : (s : Shape) (set tag : ℕ) → IsShape s → set < s.sets → tag < 2 ^ tag_bits s → s.sets * tag + set < 2 ^ 28
+line_below s set tag shape h l = line_below_by s.sets set tag shape.sets h l

@@ -12,7 +12,7 @@ pub record Contents : Type 0 where
   pub nodes : List Bool    -- the replacement bits: node n of a set is at (ways - 1) * set + n
 
 -- the contents of a new cache: all bits are 0
-abbrev pub empty : Shape → Contents
+unfoldable pub empty : Shape → Contents
 empty shape = record {
   shape = shape;
   bytes = replicate (16 * slot_count shape) 0;

@@ -21,9 +21,9 @@ shows = record {
   numbers_fit = λ x h. h.below;
   flips = λ x k. refl;
   width_stays = λ x k. refl;
-  fit_stays = λ x k h below. record { array = record { width = h.array.width; ways = ? }; below = below };
+  fit_stays = λ x k h below. record { array = record { width = h.array.width; ways = rw (length-set x.tags (k / x.width) _) h.array.ways }; below = below };
   same_width = λ x y h i e. same_width_by x.width y.width (length x.tags) (length y.tags) h.array.width i.array.width h.array.ways i.array.ways e;
-  same = λ x y h i e f. cc;
+  same = λ x y h i e f. λ j. record { width = e j; tags = f j };
 }
 
 pub tag_laws : FlipLaws IsFit bit_count bit_of flipped

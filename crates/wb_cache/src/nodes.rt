@@ -73,7 +73,8 @@ impl ReplacementNodes {
         requires shape { IsShape shape.now }
         requires length { length self.now ≡ shape.now.sets * (shape.now.ways - 1) }
         requires set { set < shape.now.sets }
-        ensures { result ≡ spec.replaced shape.now self.now set }
+        ensures way { result ≡ spec.replaced shape.now self.now set }
+        ensures within { result < shape.now.ways }
     {
         match shape.ways {
             1 => 0,
