@@ -2,5 +2,6 @@ pub mod Image
 pub mod Headers
 pub mod Meaning
 pub mod Refusal
+pub mod Layout
 pub mod Answers
 pub mod Walk

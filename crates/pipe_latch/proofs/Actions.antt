@@ -1,5 +1,5 @@
 -- What an instruction asks for stays within the widths of EX/MEM.
-use Rattle.std.specs.Prelude.{◌≡◌, ℕ, ◌≤◌, Bool}
+use Rattle.std.specs.Prelude.{ℕ, ◌≤◌, Bool}
 use Rattle.std.proofs.Common.{arith}
 use Rattle.std.proofs.lemmas.Bool.Decides.{nat_tests}
 use Rattle.rv_table.specs.Actions.{action, asked, asked_by, judged}
@@ -27,14 +27,14 @@ unfolding judged
 judged-trap ram executable asked_for h = grind (arith, nat_tests)
 
 -- it writes the instruction's own register or none
-pub action-register : (ram executable : ℕ → Bool) (op : Op) (pc a b : ℕ) → written_register (action ram executable op pc a b) ≤ op.rd
+pub action_register : (ram executable : ℕ → Bool) (op : Op) (pc a b : ℕ) → written_register (action ram executable op pc a b) ≤ op.rd
 unfolding action asked
-action-register ram executable op pc a b =
+action_register ram executable op pc a b =
     let least : written_register (asked_by (operation_of op.code) op pc a b) ≤ op.rd = asked_by-register (operation_of op.code) op pc a b in
     let judge : written_register (judged ram executable (asked_by (operation_of op.code) op pc a b)) ≤ written_register (asked_by (operation_of op.code) op pc a b) = judged-register ram executable (asked_by (operation_of op.code) op pc a b) in
     omega arith
 
 -- an instruction's traps are 1 to 8
-pub action-trap : (ram executable : ℕ → Bool) (op : Op) (pc a b : ℕ) → trap_number (action ram executable op pc a b) ≤ 8
+pub action_trap : (ram executable : ℕ → Bool) (op : Op) (pc a b : ℕ) → trap_number (action ram executable op pc a b) ≤ 8
 unfolding action asked
-action-trap ram executable op pc a b = judged-trap ram executable (asked_by (operation_of op.code) op pc a b) (asked_by-trap (operation_of op.code) op pc a b)
+action_trap ram executable op pc a b = judged-trap ram executable (asked_by (operation_of op.code) op pc a b) (asked_by-trap (operation_of op.code) op pc a b)

@@ -5,7 +5,10 @@ use Rattle.std.proofs.lemmas.Bool.Decides.{nat_tests}
 use Rattle.rv_table.specs.declared.action.Action.{Action}
 use Rattle.rv_table.specs.declared.action.Action.TheVariants.{Nothing}
 use Rattle.rv_table.specs.Effects.{written_register}
-use Rattle.pipe_latch.specs.Latches.{ExecutedLatch, no_executed}
+use Rattle.elf_load.specs.Image.{LoadedImage, executable, word_in_ram}
+use Rattle.rv_table.specs.Actions.{action}
+use Rattle.pipe_latch.specs.Execution.{executed}
+use Rattle.pipe_latch.specs.Latches.{DecodedLatch, ExecutedLatch, no_executed, op_of_latch}
 use Rattle.pipe_latch.specs.LatchedActions.{latch_of, action_of, trap_number}
 
 -- an action that goes into EX/MEM comes out of it
@@ -52,3 +55,8 @@ written-none m low high = grind (arith, nat_tests)
 -- it writes register r, not 0, where it is valid, its register is r and the kind is a load or a write back
 pub written-exactly : (m : ExecutedLatch) (r : ℕ) → r ≢ 0 → (written_register (action_of m) ≡ r) ↔ (IsTrue m.valid × (m.rd ≡ r) × ((m.kind ≤ 5) ⊎ (12 ≤ m.kind)))
 written-exactly m r ne = (λ e. grind (arith, nat_tests, action_of-invalid m, written-load m, written-back m, written-none m), λ h. grind (arith, nat_tests, written-load m, written-back m))
+
+-- what EX writes into the latch comes out as what the instruction asks for
+pub action_of-executed : (image : LoadedImage) (d : DecodedLatch) (a b : ℕ) → action_of (executed image d a b) ≡ action (word_in_ram image) (executable image) (op_of_latch d) d.pc a b
+unfolding executed
+action_of-executed image d a b = action_of-latch_of (action (word_in_ram image) (executable image) (op_of_latch d) d.pc a b)

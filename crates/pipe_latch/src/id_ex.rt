@@ -2,6 +2,7 @@
 ghost use Rattle.std.specs.Prelude.{◌≡◌};
 
 use bit_field::{Struck, bit_at, flip_bit, flip_u8, flip_u32};
+use rv_table::Op;
 use std::marker::Model;
 
 /// The latch ID/EX: a decoded instruction on its way into execution.
@@ -103,7 +104,7 @@ impl Struck for IdEx {
 }
 
 impl IdEx {
-    ghost use Rattle.pipe_latch.specs.Latches.{no_decoded};
+    ghost use Rattle.pipe_latch.specs.Latches.{no_decoded, op_of_latch};
 
     /// The empty latch: all zero.
     pub fn empty() -> IdEx
@@ -120,6 +121,19 @@ impl IdEx {
             b: 0,
             imm: 0,
             count: 0,
+        }
+    }
+
+    /// The instruction that it holds.
+    pub fn instruction(&self) -> Op
+        ensures { result ≡ op_of_latch self.now }
+    {
+        Op {
+            code: self.op,
+            rd: self.rd,
+            rs1: self.rs1,
+            rs2: self.rs2,
+            imm: self.imm,
         }
     }
 }
