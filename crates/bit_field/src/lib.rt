@@ -17,3 +17,6 @@ pub use flips::{
 pub use places::{Place, Structure, structure_name, structure_named};
 pub use shapes::{Shape, bits_in, bits_of, is_shape, plain_shape, tag_bits};
 pub use strikes::Struck;
+
+#[cfg(test)]
+mod tests;
