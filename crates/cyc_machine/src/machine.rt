@@ -44,7 +44,7 @@ pub struct Machine<'i> {
     pub(crate) ended: bool,
 }
 
-impl Model for Machine<'_> {
+impl<'i> Model for Machine<'i> {
     ghost use Rattle.std.specs.Prelude.{◌≡◌, length};
     ghost use Rattle.cyc_machine.specs.State.{State};
 

@@ -2,6 +2,5 @@ pub mod Image
 pub mod Headers
 pub mod Meaning
 pub mod Refusal
-pub mod Layout
 pub mod Answers
 pub mod Walk

@@ -4,12 +4,9 @@
 pub mod error;
 mod headers;
 pub mod image;
-mod layout;
-pub mod load;
 pub mod segment;
 mod walk;
 
 pub use error::LoadError;
 pub use image::Image;
-pub use load::segments;
 pub use segment::Segment;
