@@ -1,24 +1,19 @@
 // The store buffer.
 
-ghost use Rattle.std.specs.Prelude.{◌≡◌, ◌<◌, ℕ, ◌∷◌, [], ◌++◌, length, slice_index_or};
+ghost use Rattle.std.specs.Prelude.{◌≡◌, ◌<◌, ℕ, ◌∷◌, [], ◌++◌, length, drop};
 ghost use Rattle.store_buf.specs.Entry.{no_entry};
 ghost use Rattle.store_buf.specs.Entry as entry;
-ghost use Rattle.store_buf.specs.Pending.{pending, packed, oldest, younger};
+ghost use Rattle.store_buf.specs.Pending.{pending, packed, slot_of, oldest, younger};
 ghost use Rattle.store_buf.specs.Covers.{found, is_found, is_missing, all_found, none_found, byte_found, word_found, covered};
 
 use bit_field::{Struck, bit_at};
 use std::marker::Model;
 
 use crate::cover::Cover;
-use crate::pending::Pending;
+use crate::pending::{Pending, free_slot};
 
-const FREE: Pending = Pending {
-    mask: 0,
-    addr: 0,
-    value: 0,
-};
-
-/// Four slots for pending stores.
+/// Four slots for stores that wait for the cache. Contracts see them as a list, in which free slots may stand between the
+/// others, since a strike can make any. 264 bits can be struck: slot k from bit 66 k.
 #[derive(Clone, Copy)]
 pub struct StoreBuf {
     slots: [Pending; 4],
@@ -74,33 +69,33 @@ impl Struck for StoreBuf {
 
 impl StoreBuf {
     /// A buffer with four free slots.
-    #[tactic(auto, unfolding(crate::specs::Pending::packed))]
     pub fn new() -> StoreBuf
         ensures { result ≡ packed [] }
     {
-        StoreBuf { slots: [FREE; 4] }
+        StoreBuf {
+            slots: free_slots(),
+        }
     }
 
-    /// Slot `k` as it stands.
+    /// Slot `k`, 0 to 3, as it stands.
     pub fn slot(&self, k: u32) -> Pending
         requires { k < 4 }
-        ensures { result ≡ slice_index_or self.now k no_entry }
+        ensures { result ≡ slot_of self.now k }
     {
         self.slots[k as usize]
     }
 
     /// The number of pending stores.
-    #[tactic(auto, unfolding(crate::specs::Pending::pending))]
     pub fn len(&self) -> u32
         ensures { result ≡ length (pending self.now) }
     {
-        let mut len = 0;
+        let mut count = 0;
         for slot in &self.slots {
             if slot.mask != 0 {
-                len += 1;
+                count += 1;
             }
         }
-        len
+        count
     }
 
     /// The oldest pending store; `None` exactly where no slot holds one.
@@ -115,44 +110,27 @@ impl StoreBuf {
         None
     }
 
-    /// Takes the oldest pending store out. The others stand in the first slots in their order, and all other slots are free;
-    /// `None` exactly where no slot holds one.
+    /// Takes the oldest pending store out; `None` exactly where no slot holds one. The others then stand in the first slots
+    /// in their order, and all other slots are free.
     pub fn drain(&mut self) -> Option<Pending>
         ensures taken { result ≡ oldest (pending self.old) }
         ensures left { self.new ≡ packed (younger (pending self.old)) }
     {
         let taken = self.oldest();
-        self.pack();
-        let stores = [self.slots[1], self.slots[2], self.slots[3], FREE];
-        self.slots = stores;
+        self.slots = moved_down(&in_front(&self.slots));
         taken
     }
 
-    /// Appends a store as the youngest. The pending stores stand in the first slots in their order, and all other slots are
-    /// free.
+    /// Appends a store as the youngest. The pending stores then stand in the first slots in their order, and all other slots
+    /// are free.
     pub fn push(&mut self, p: Pending)
         requires room { length (pending self.old) < 4 }
         requires pending { 0 < p.mask }
         ensures { self.new ≡ packed (pending self.old ++ p ∷ []) }
     {
-        let len = self.len();
-        self.pack();
-        self.slots[len as usize] = p;
-    }
-
-    // Moves the pending stores to the first slots, in their order.
-    fn pack(&mut self)
-        ensures { self.new ≡ packed (pending self.old) }
-    {
-        let mut stores = [FREE; 4];
-        let mut len = 0;
-        for slot in &self.slots {
-            if slot.mask != 0 {
-                stores[len] = *slot;
-                len += 1;
-            }
-        }
-        self.slots = stores;
+        let count = self.len();
+        self.slots = in_front(&self.slots);
+        self.slots[count as usize] = p;
     }
 
     /// What the pending stores hold of the lanes of the word at a word address; `lanes` is a mask from 1 to 15.
@@ -241,6 +219,36 @@ impl StoreBuf {
             0
         }
     }
+}
+
+fn free_slots() -> [Pending; 4]
+    ensures { result ≡ packed [] }
+{
+    [free_slot(); 4]
+}
+
+// The pending stores moved to the first slots, in their order.
+fn in_front(slots: &[Pending; 4]) -> [Pending; 4]
+    requires { length slots.now ≡ 4 }
+    ensures { result ≡ packed (pending slots.now) }
+{
+    let mut next = free_slots();
+    let mut count = 0;
+    for slot in slots {
+        if slot.mask != 0 {
+            next[count] = *slot;
+            count += 1;
+        }
+    }
+    next
+}
+
+// Each slot moved down by one.
+fn moved_down(slots: &[Pending; 4]) -> [Pending; 4]
+    requires { length slots.now ≡ 4 }
+    ensures { result ≡ drop 1 slots.now ++ no_entry ∷ [] }
+{
+    [slots[1], slots[2], slots[3], free_slot()]
 }
 
 // Whether a mask names a lane.

@@ -1,12 +1,14 @@
 // A slot of the store buffer.
 
 ghost use Rattle.std.specs.Prelude.{◌≡◌, ◌<◌, ℕ};
+ghost use Rattle.store_buf.specs.Entry.{no_entry};
 ghost use Rattle.store_buf.specs.Covers.{held};
 
 use bit_field::{Struck, bit_at, flip_u8, flip_u32};
 use std::marker::Model;
 
-/// A store to one word that waits for the cache. A slot whose mask is 0 is free.
+/// A store to one word that waits for the cache; with mask 0 a free slot. 66 bits can be struck: mask 0 to 3, word address 4
+/// to 33, value 34 to 65.
 #[derive(Clone, Copy, PartialEq, Eq, Debug)]
 pub struct Pending {
     /// Bit `l` says that byte lane `l` is written; below 16.
@@ -81,5 +83,16 @@ impl Pending {
         } else {
             None
         }
+    }
+}
+
+/// A free slot: all zero.
+pub(crate) fn free_slot() -> Pending
+    ensures { result ≡ no_entry }
+{
+    Pending {
+        mask: 0,
+        addr: 0,
+        value: 0,
     }
 }
