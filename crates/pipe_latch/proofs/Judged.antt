@@ -1,12 +1,11 @@
 -- What memory makes of an action, by what an image tells of it.
-use Rattle.std.specs.Prelude.{◌≡◌, ℕ, ◌+◌, ◌*◌, ◌/◌, ◌%◌, ◌^◌, ◌<◌, ◌≤◌, Bool, true, length}
+use Rattle.std.specs.Prelude.{◌≡◌, ℕ, ◌+◌, ◌/◌, ◌%◌, ◌^◌, ◌<◌, ◌≤◌, true, length}
 use Rattle.std.proofs.Common.{arith}
 use Rattle.std.proofs.lemmas.Bool.Decides.{nat_tests}
 use Rattle.elf_load.specs.Image.{LoadedImage, IsImage, any_executable, executable, in_ram, word_in_ram}
 use Rattle.rv_table.specs.Accesses.{store_size}
-use Rattle.rv_table.specs.Actions.{judged, judged_by, some_executable, access_of}
+use Rattle.rv_table.specs.Actions.{some_executable}
 use Rattle.rv_table.specs.declared.operation.StoreKind.{StoreKind}
-use Rattle.rv_table.specs.declared.action.Action.{Action}
 
 -- the bytes of a store, one by one
 pub any_executable_some : (image : LoadedImage) (kind : StoreKind) (x : ℕ) → any_executable image x (store_size kind) ≡ some_executable (executable image) x (store_size kind)

@@ -7,7 +7,7 @@ use Rattle.rv_table.specs.Effects.{is_load, written_register}
 use Rattle.pipe_latch.specs.Latches.{ExecutedLatch, ResultLatch}
 use Rattle.pipe_latch.specs.LatchedActions.{action_of}
 use Rattle.pipe_latch.specs.Forwarding.{operand, IsAwaited}
-use Rattle.pipe_latch.specs.declared.forward.Forwarded.TheVariants.{Value, Wait}
+use Rattle.pipe_latch.specs.declared.forward.Forwarded.TheVariants.{Wait}
 
 -- an operand waits only for a load of its register
 pub operand-waits : (a : Action) (w : ResultLatch) (rs held : ℕ) → operand a w rs held ≡ Wait → (rs ≢ 0) × (is_load a ≡ true) × (rs ≡ written_register a)

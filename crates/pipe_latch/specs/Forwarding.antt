@@ -1,7 +1,7 @@
 -- Operands in EX and in ID: what forwarding makes of a held value. W is MEM/WB; M is what EX/MEM does.
-use Rattle.std.specs.Prelude.{◌≡◌, ◌≢◌, ℕ, ◌≤◌, Bool, true, false, IsTrue, ◌==◌, if◌then◌else◌}
+use Rattle.std.specs.Prelude.{◌≡◌, ◌≢◌, ℕ, ◌≤◌, false, IsTrue, ◌==◌, if◌then◌else◌}
 use Rattle.rv_table.specs.declared.action.Action.{Action}
-use Rattle.rv_table.specs.declared.action.Action.TheVariants.{Nothing, Writes, Loads, Stores, Puts, Exits, Traps}
+use Rattle.rv_table.specs.declared.action.Action.TheVariants.{Writes}
 use Rattle.rv_table.specs.Effects.{is_load, written_register}
 use Rattle.pipe_latch.specs.Latches.{ExecutedLatch, ResultLatch}
 use Rattle.pipe_latch.specs.declared.forward.Forwarded.{Forwarded}

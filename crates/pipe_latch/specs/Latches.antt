@@ -1,5 +1,5 @@
 -- What the pipeline's latches hold, whatever that is.
-use Rattle.std.specs.Prelude.{ℕ, Bool, true, false}
+use Rattle.std.specs.Prelude.{ℕ, Bool, false}
 use Rattle.rv_table.specs.declared.op.Op.{Op}
 
 -- ID/EX: a decoded instruction on its way into EX
