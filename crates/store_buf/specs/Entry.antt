@@ -3,9 +3,9 @@ use Rattle.std.specs.Prelude.{◌≡◌, ℕ, ◌==◌, Bool}
 use Rattle.std.specs.Int.{bit_at}
 
 pub record Entry : Type 0 where
-  pub mask : ℕ      -- bit l says that the store writes byte lane l; a slot with no bit set is free
-  pub addr : ℕ      -- word address
-  pub value : ℕ     -- the word, lane 0 its lowest byte
+  pub mask : ℕ  -- bit l says that the store writes byte lane l; a slot with no bit set is free
+  pub addr : ℕ  -- word address
+  pub value : ℕ  -- the word, lane 0 its lowest byte
 
 -- a free slot, all of whose bits are 0
 abbrev pub no_entry : Entry

@@ -6,11 +6,10 @@ ghost use Rattle.store_buf.specs.Entry as entry;
 ghost use Rattle.store_buf.specs.Pending.{pending, packed, slot_of, oldest, younger};
 ghost use Rattle.store_buf.specs.Covers.{found, is_found, is_missing, all_found, none_found, byte_found, word_found, covered};
 
-use bit_field::{Struck, bit_at};
-use std::marker::Model;
-
 use crate::cover::Cover;
 use crate::pending::{Pending, free_slot};
+use bit_field::{Struck, bit_at};
+use std::marker::Model;
 
 /// Four slots for stores that wait for the cache. Contracts see them as a list, in which free slots may stand between the
 /// others, since a strike can make any. 264 bits can be struck: slot k from bit 66 k.
@@ -165,7 +164,10 @@ impl StoreBuf {
     fn all_found(&self, addr: u32, lanes: u8) -> bool
         ensures { result ≡ all_found (pending self.now) addr lanes }
     {
-        self.is_found(addr, lanes, 0) && self.is_found(addr, lanes, 1) && self.is_found(addr, lanes, 2) && self.is_found(addr, lanes, 3)
+        self.is_found(addr, lanes, 0)
+            && self.is_found(addr, lanes, 1)
+            && self.is_found(addr, lanes, 2)
+            && self.is_found(addr, lanes, 3)
     }
 
     // Whether no lane of a mask is held.

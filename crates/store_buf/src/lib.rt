@@ -15,3 +15,6 @@ mod pending;
 pub use buffer::StoreBuf;
 pub use cover::Cover;
 pub use pending::Pending;
+
+#[cfg(test)]
+mod tests;

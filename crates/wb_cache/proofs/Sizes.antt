@@ -29,3 +29,10 @@ line_below_by sets set tag p h l = grind arith
 -- the line of a set and a tag
 pub line_below : (s : Shape) (set tag : ℕ) → IsShape s → set < s.sets → tag < 2 ^ tag_bits s → s.sets * tag + set < 2 ^ 28
 line_below s set tag shape h l = line_below_by s.sets set tag shape.sets h l
+
+slot_apart_by : (ways set way s w : ℕ) → (ways ≡ 1) ⊎ (ways ≡ 2) ⊎ (ways ≡ 4) → way < ways → w < ways → ways * s + w ≡ ways * set + way → (s ≡ set) × (w ≡ way)
+slot_apart_by ways set way s w p h l e = grind arith
+
+-- slots of one number are one slot
+pub slot_apart : (shape : Shape) (set way s w : ℕ) → IsShape shape → way < shape.ways → w < shape.ways → slot_of shape s w ≡ slot_of shape set way → (s ≡ set) × (w ≡ way)
+slot_apart shape set way s w is h l e = slot_apart_by shape.ways set way s w is.ways h l e

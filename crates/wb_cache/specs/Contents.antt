@@ -63,7 +63,3 @@ slot_at c l = record {
 -- the slots by set and way; none stands outside the shape
 unfoldable pub slots : Contents → ℕ → ℕ → Slot
 slots c set way = cond (nat_lt set c.shape.sets && nat_lt way c.shape.ways) (slot_at c (slot_of c.shape set way)) no_slot
-
--- the slots with one of them replaced
-abbrev pub put_slot : ℕ → ℕ → Slot → (ℕ → ℕ → Slot) → ℕ → ℕ → Slot
-put_slot set way slot cache s w = cond (s == set && w == way) slot (cache s w)

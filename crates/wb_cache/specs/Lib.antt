@@ -1,5 +1,6 @@
 pub mod Access
 pub mod Bits
+pub mod Changes
 pub mod Contents
 pub mod Laws
 pub mod Lookup

@@ -19,6 +19,6 @@ pub returns : goal.returns
 returns c =
     let past : length c.self.inside.slots ≤ c.loop-slot.slot-index = omega arith in
     rw (← c.self.view_is) (
-      c.loop-slot.invariant
-      ∙ ap (λ (xs : List Entry). found xs c.args.addr c.args.lane) (take_all c.loop-slot.slot-index c.self.inside.slots past)
-      ∙ sym (found-pending c.self.inside.slots c.args.addr c.args.lane))
+    c.loop-slot.invariant
+    ∙ ap (λ (xs : List Entry). found xs c.args.addr c.args.lane) (take_all c.loop-slot.slot-index c.self.inside.slots past)
+    ∙ sym (found-pending c.self.inside.slots c.args.addr c.args.lane))
