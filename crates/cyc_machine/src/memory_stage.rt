@@ -348,7 +348,7 @@ fn drop_stray(stores: &mut StoreBuf, image: &Image)
     if is_stray(stores.oldest(), image) {
         let _oldest = stores.drain();
     } else {
-        stores.pack();
+        stores.ripple();
     }
 }
 
@@ -373,10 +373,10 @@ fn append(stores: &mut StoreBuf, image: &Image, action: &Action, room: bool)
             if room && image.word_in_ram(*place / 4) {
                 stores.push(pending_store(*kind, *place, *value));
             } else {
-                stores.pack();
+                stores.ripple();
             }
         }
-        _ => stores.pack(),
+        _ => stores.ripple(),
     }
 }
 

@@ -132,6 +132,13 @@ impl StoreBuf {
         self.slots[count as usize] = p;
     }
 
+    /// Moves the pending stores to the first slots, in their order, and frees all others.
+    pub fn ripple(&mut self)
+        ensures { self.new ≡ packed (pending self.old) }
+    {
+        self.slots = in_front(&self.slots);
+    }
+
     /// What the pending stores hold of the lanes of the word at a word address; `lanes` is a mask from 1 to 15.
     #[tactic(auto, unfolding(crate::specs::Covers::covered))]
     pub fn cover(&self, addr: u32, lanes: u8) -> Cover

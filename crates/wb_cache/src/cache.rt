@@ -216,7 +216,8 @@ impl Cache {
         self.tags.tag(self.slot(set, way))
     }
 
-    fn sets(&self) -> u32
+    /// How many sets it has.
+    pub fn sets(&self) -> u32
         ensures value { result ≡ self.now.shape.sets }
         ensures some { 0 < result }
     {
@@ -249,7 +250,8 @@ impl Cache {
         u32::from(self.shape.sets) * tag + set
     }
 
-    fn ways(&self) -> u32
+    /// How many ways each set has.
+    pub fn ways(&self) -> u32
         ensures { result ≡ self.now.shape.ways }
     {
         u32::from(self.shape.ways)
