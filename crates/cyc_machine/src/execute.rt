@@ -1,5 +1,5 @@
 // EX: what becomes of ID/EX, and what its instruction leaves behind.
-ghost use Rattle.std.specs.Prelude.{◌≡◌, ◌<◌, ◌^◌, ◌×◌, ℕ, Bool};
+ghost use Rattle.std.specs.Prelude.{◌≡◌, ◌<◌, ◌^◌, ℕ, Bool};
 ghost use Rattle.std.specs.Option.{ForSome};
 ghost use Rattle.pipe_latch.specs.LatchedActions.{action_of};
 ghost use Rattle.pipe_latch.specs.Latches.{op_of_latch};
@@ -14,7 +14,7 @@ use crate::fate::Fate;
 
 // What becomes of ID/EX. `mem_goes` says whether EX/MEM leaves in this cycle.
 #[tactic(auto, unfolding(crate::specs::Pipeline::fate_of))]
-pub fn fate(d: &IdEx, npc: u32, m: &ExMem, w: &MemWb, mem_goes: bool) -> Fate
+pub fn fate_of(d: &IdEx, npc: u32, m: &ExMem, w: &MemWb, mem_goes: bool) -> Fate
     ensures { result ≡ pipeline.fate_of d.now npc (action_of m.now) w.now mem_goes }
 {
     if !d.valid {
@@ -76,7 +76,7 @@ pub struct Issue {
 
 // What EX leaves behind: `cycle` is the number of this cycle, `issued` the count of instructions that left EX before it.
 #[tactic(auto, unfolding(crate::specs::Pipeline::executed_after, crate::specs::Pipeline::npc_after, crate::specs::Pipeline::lesson, crate::specs::Pipeline::issued_after, crate::specs::Pipeline::counted))]
-pub fn issue(image: &Image, fate: &Fate, mem_goes: bool, d: &IdEx, cycle: u32, issued: u32, npc: u32, m: &ExMem) -> Issue
+pub fn leave_execution(image: &Image, fate: &Fate, mem_goes: bool, d: &IdEx, cycle: u32, issued: u32, npc: u32, m: &ExMem) -> Issue
     requires { npc < 2 ^ 30 }
     ensures executed { result.executed ≡ pipeline.executed_after image.now fate.now mem_goes d.now cycle issued m.now }
     ensures npc { result.npc ≡ pipeline.npc_after fate.now d.now cycle issued npc }

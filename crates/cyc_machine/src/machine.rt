@@ -13,7 +13,7 @@ use std::sync::ledger::Ledger;
 use store_buf::StoreBuf;
 use wb_cache::Cache;
 
-use crate::execute::{Issue, fate, issue, train};
+use crate::execute::{Issue, fate_of, leave_execution, train};
 use crate::fate::Fate;
 use crate::front_end::{decoded_after, pc_after, update_buffer};
 use crate::memory_stage::{
@@ -137,7 +137,7 @@ impl<'i> Machine<'i> {
         let event = event_of(&motion, &action, self.cycle, &self.cache);
         let word = access(&mut self.cache, &mut self.memory, self.image, &motion);
         let served = serve(self.image, &action, &self.stores, word);
-        let fate = fate(&self.decoded, self.npc.get(), &self.executed, &self.written, served.goes);
+        let fate = fate_of(&self.decoded, self.npc.get(), &self.executed, &self.written, served.goes);
         let report = CycleReport {
             put: put_by(&action),
             issued: issued_by(&fate, &self.decoded),
@@ -172,7 +172,7 @@ impl<'i> Machine<'i> {
     {
         let fetch = self.pc.get();
         let next = self.next_fetch(fate);
-        let Issue { executed, npc, lesson, issued } = issue(
+        let Issue { executed, npc, lesson, issued } = leave_execution(
             self.image,
             fate,
             served.goes,
