@@ -45,30 +45,25 @@ fate s = fate_of s.d s.npc (action_in_m s) s.w (served_m s).goes
 abbrev pub next_fetch : Fate → State → ℕ
 next_fetch f s = pc_after f (predicted s.tables s.pc) (entries s.buffer) s.npc s.pc
 
--- the pipeline's next values
-abbrev pub advanced : Fate → Action → Served → State → State
-advanced f action m s =
-    record s {
+-- The next state. Each part has one equation over the whole old state.
+unfoldable pub cycled : Fate → Move → Served → State → State
+cycled f v m s =
+    record {
+      image = s.image;
       pc = next_fetch f s;
       npc = npc_after f s.d s.cycle s.issued s.npc;
       tables = trained_by (lesson f s.d s.cycle s.issued) s.d.pc s.tables;
       buffer = packed_entries (entries_after s.image f s.pc (entries s.buffer));
       d = decoded_after f s.d (entries s.buffer) s.w s.registers;
       m = executed_after s.image f m.goes s.d s.cycle s.issued s.m;
-      w = result_after action m;
+      w = result_after (action_in_m s) m;
       registers = written_registers s.w s.registers;
-      issued = issued_after f s.issued;
-    }
-
--- The next state. Each part has one equation over the whole old state.
-unfoldable pub cycled : Fate → Move → Served → State → State
-cycled f v m s =
-    record (advanced f (action_in_m s) m s) {
       stores = packed_stores (stores_after s.image (action_in_m s) v (pending s.stores));
       port = port_after v s.port;
       cache = cache_after s.image v s.memory s.cache;
       memory = memory_after s.image v s.cache s.memory;
       cycle = s.cycle + 1;
+      issued = issued_after f s.issued;
       ended = is_some (end_of (action_in_m s));
     }
 

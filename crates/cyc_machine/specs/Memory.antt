@@ -29,11 +29,14 @@ uncovered_word Uncovered word = Some word
 uncovered_word Part word = None
 uncovered_word (Full value) word = None
 
--- The load client: the word address that M's load asks for. It is present where the load is in RAM and the store buffer
--- holds none of its lanes.
-unfoldable pub load_client : LoadedImage → Action → List Entry → Option ℕ
-load_client image (Loads kind rd x) stores =
+-- the word address that a load asks the cache for: where it is in RAM and the store buffer holds none of its lanes
+unfoldable pub asked_word : LoadedImage → LoadKind → ℕ → List Entry → Option ℕ
+asked_word image kind x stores =
     if word_in_ram image (x / 4) then uncovered_word (covered stores (x / 4) (lane_mask (load_size kind) x)) (x / 4) else None
+
+-- the load client
+unfoldable pub load_client : LoadedImage → Action → List Entry → Option ℕ
+load_client image (Loads kind rd x) stores = asked_word image kind x stores
 load_client image _ stores = None
 
 abbrev pub in_ram_entry : LoadedImage → Option Entry → Option Entry

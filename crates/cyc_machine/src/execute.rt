@@ -65,6 +65,13 @@ fn op_of(d: &IdEx) -> Op
     }
 }
 
+/// The numbers that a counter read gives: that of this cycle, and the count of instructions that left EX before it.
+#[derive(Clone, Copy)]
+pub struct Counts {
+    pub cycle: u32,
+    pub issued: u32,
+}
+
 /// What EX leaves behind in a cycle.
 #[derive(Clone, Copy)]
 pub struct Issue {
@@ -74,33 +81,33 @@ pub struct Issue {
     pub issued: u32,
 }
 
-// What EX leaves behind: `cycle` is the number of this cycle, `issued` the count of instructions that left EX before it.
+// What EX leaves behind.
 #[tactic(auto, unfolding(crate::specs::Pipeline::executed_after, crate::specs::Pipeline::npc_after, crate::specs::Pipeline::lesson, crate::specs::Pipeline::issued_after, crate::specs::Pipeline::counted))]
-pub fn leave_execution(image: &Image, fate: &Fate, mem_goes: bool, d: &IdEx, cycle: u32, issued: u32, npc: u32, m: &ExMem) -> Issue
+pub fn leave_execution(image: &Image, fate: &Fate, mem_goes: bool, d: &IdEx, now: Counts, npc: u32, m: &ExMem) -> Issue
     requires { npc < 2 ^ 30 }
-    ensures executed { result.executed ≡ pipeline.executed_after image.now fate.now mem_goes d.now cycle issued m.now }
-    ensures npc { result.npc ≡ pipeline.npc_after fate.now d.now cycle issued npc }
-    ensures lesson { result.lesson ≡ pipeline.lesson fate.now d.now cycle issued }
-    ensures issued { result.issued ≡ pipeline.issued_after fate.now issued }
+    ensures executed { result.executed ≡ pipeline.executed_after image.now fate.now mem_goes d.now now.cycle now.issued m.now }
+    ensures npc { result.npc ≡ pipeline.npc_after fate.now d.now now.cycle now.issued npc }
+    ensures lesson { result.lesson ≡ pipeline.lesson fate.now d.now now.cycle now.issued }
+    ensures issued { result.issued ≡ pipeline.issued_after fate.now now.issued }
     ensures within { result.npc < 2 ^ 30 }
     ensures target { ForSome result.lesson (λ lesson. lesson.1 < 2 ^ 30) }
 {
     match fate {
         Fate::Goes { a, b } => {
-            let b = with_counter(&op_of(d), cycle, issued, *b);
+            let b = with_counter(&op_of(d), now.cycle, now.issued, *b);
             let Executed { latch, next, learn } = execute(d, *a, b, image);
             Issue {
                 executed: latch,
                 npc: next,
                 lesson: learn,
-                issued: issued.wrapping_add(1),
+                issued: now.issued.wrapping_add(1),
             }
         }
         _ => Issue {
             executed: if mem_goes { ExMem::empty() } else { *m },
             npc,
             lesson: None,
-            issued,
+            issued: now.issued,
         },
     }
 }

@@ -1,5 +1,5 @@
 // ID and IF: decoding the first entry of the instruction buffer, and fetching another.
-ghost use Rattle.std.specs.Prelude.{◌≡◌, ◌<◌, ◌^◌, ℕ, length, slice_get};
+ghost use Rattle.std.specs.Prelude.{◌≡◌, ◌<◌, ◌^◌, ℕ, true, length, slice_get};
 ghost use Rattle.inst_buf.specs.Buffer.{entries, packed};
 ghost use Rattle.cyc_machine.specs.Pipeline as pipeline;
 

@@ -6,22 +6,20 @@ use elf_load::Image;
 use inst_buf::InstBuf;
 use pipe_latch::{ExMem, IdEx, MemWb};
 use predictor::Predictor;
-use rv_table::Action;
 use std::alloc::Global;
 use std::marker::Model;
 use std::sync::ledger::Ledger;
 use store_buf::StoreBuf;
 use wb_cache::Cache;
 
-use crate::execute::{Issue, fate_of, leave_execution, train};
-use crate::fate::Fate;
+use crate::execute::{Counts, fate_of, leave_execution, train};
 use crate::front_end::{decoded_after, pc_after, update_buffer};
 use crate::memory_stage::{
-    Served, access, load_client, port_after, port_move, result_after, serve, store_client, update_stores,
+    access, load_client, port_after, port_move, result_after, serve, store_client, update_stores,
 };
-use crate::port::{Move, PortLatch};
+use crate::port::PortLatch;
 use crate::registers::{ProgramCounter, RegisterFile};
-use crate::report::{CycleReport, end_of, event_of, issued_by, put_by};
+use crate::report::{CycleReport, event_of, report_of};
 
 /// The machine: the sixteen structures, main memory, and the numbers that go with a run.
 #[derive(Drop)]
@@ -77,9 +75,7 @@ impl<'i> Machine<'i> {
     ghost use Rattle.bit_field.specs.Shapes.{IsShape};
     ghost use Rattle.bit_field.specs.Shapes as shapes;
     ghost use Rattle.cyc_machine.specs.State.{reset};
-    ghost use Rattle.rv_table.specs.Effects.{written_register};
     ghost use Rattle.cyc_machine.specs.Cycle as cycles;
-    ghost use Rattle.cyc_machine.specs.Memory as memory_side;
 
     /// A machine of the plain shape at reset on an image.
     pub fn new(alloc: Global, image: &'i Image) -> Result<Machine<'i>, OutOfMemory>
@@ -132,75 +128,36 @@ impl<'i> Machine<'i> {
         ensures steps { steps.new ≡ steps.old + 1 }
     {
         steps.tick();
+        let image = self.image;
+        let fetch = self.pc.get();
         let action = self.executed.action();
-        let motion = self.port_motion(&action);
+        let load = load_client(image, &action, &self.stores);
+        let store = store_client(image, &self.stores);
+        let motion = port_move(&self.port, &self.cache, load, store);
         let event = event_of(&motion, &action, self.cycle, &self.cache);
-        let word = access(&mut self.cache, &mut self.memory, self.image, &motion);
-        let served = serve(self.image, &action, &self.stores, word);
+        let word = access(&mut self.cache, &mut self.memory, image, &motion);
+        let served = serve(image, &action, &self.stores, word);
         let fate = fate_of(&self.decoded, self.npc.get(), &self.executed, &self.written, served.goes);
-        let report = CycleReport {
-            put: put_by(&action),
-            issued: issued_by(&fate, &self.decoded),
-            retired: self.executed.valid && served.goes,
-            event,
-            end: end_of(&action),
-        };
-        update_stores(&mut self.stores, self.image, &action, &motion);
+        let retired = self.executed.valid && served.goes;
+        let report = report_of(&action, &fate, &self.decoded, retired, event);
+        let predicted = self.predictor.next(fetch);
+        let next = pc_after(&fate, predicted, &self.buffer, self.npc.get(), fetch);
+        let now = Counts { cycle: self.cycle, issued: self.issued };
+        let issue = leave_execution(image, &fate, served.goes, &self.decoded, now, self.npc.get(), &self.executed);
+        let decoded = decoded_after(&fate, &self.decoded, &self.buffer, &self.written, &self.registers);
+        train(&mut self.predictor, issue.lesson, self.decoded.pc);
+        update_buffer(&mut self.buffer, &fate, image, fetch);
+        update_stores(&mut self.stores, image, &action, &motion);
+        self.registers.take(&self.written);
         self.port = port_after(&motion, &self.port);
-        self.advance(&fate, &action, &served);
+        self.pc = ProgramCounter { word: next };
+        self.npc = ProgramCounter { word: issue.npc };
+        self.decoded = decoded;
+        self.executed = issue.executed;
+        self.written = result_after(&action, &served);
+        self.issued = issue.issued;
         self.cycle += 1;
         self.ended = report.end.is_some();
         report
-    }
-
-    // What the port does in this cycle.
-    fn port_motion(&self, action: &Action) -> Move
-        requires { action.now ≡ cycles.action_in_m self.now }
-        ensures motion { result ≡ cycles.move self.now }
-        ensures fills { memory_side.FillsMiss result self.now.cache }
-        ensures count { memory_side.move_count result < 32 }
-    {
-        let load = load_client(self.image, action, &self.stores);
-        let store = store_client(self.image, &self.stores);
-        port_move(&self.port, &self.cache, load, store)
-    }
-
-    // The pipeline's parts take their next values.
-    fn advance(&mut self, fate: &Fate, action: &Action, served: &Served)
-        requires { written_register action.now < 32 }
-        ensures { self.new ≡ cycles.advanced fate.now action.now served.now self.old }
-    {
-        let fetch = self.pc.get();
-        let next = self.next_fetch(fate);
-        let Issue { executed, npc, lesson, issued } = leave_execution(
-            self.image,
-            fate,
-            served.goes,
-            &self.decoded,
-            self.cycle,
-            self.issued,
-            self.npc.get(),
-            &self.executed,
-        );
-        let decoded = decoded_after(fate, &self.decoded, &self.buffer, &self.written, &self.registers);
-        train(&mut self.predictor, lesson, self.decoded.pc);
-        update_buffer(&mut self.buffer, fate, self.image, fetch);
-        self.registers.take(&self.written);
-        self.pc = ProgramCounter { word: next };
-        self.npc = ProgramCounter { word: npc };
-        self.decoded = decoded;
-        self.executed = executed;
-        self.written = result_after(action, served);
-        self.issued = issued;
-    }
-
-    // The word address that is fetched in the next cycle.
-    fn next_fetch(&self, fate: &Fate) -> u32
-        ensures next { result ≡ cycles.next_fetch fate.now self.now }
-        ensures within { result < 2 ^ 30 }
-    {
-        let fetch = self.pc.get();
-        let predicted = self.predictor.next(fetch);
-        pc_after(fate, predicted, &self.buffer, self.npc.get(), fetch)
     }
 }

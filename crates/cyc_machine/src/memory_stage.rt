@@ -34,9 +34,9 @@ pub fn load_client(image: &Image, action: &Action, stores: &StoreBuf) -> Option<
     }
 }
 
-#[tactic(auto, unfolding(crate::specs::Memory::load_client))]
+#[tactic(auto, unfolding(crate::specs::Memory::asked_word))]
 fn load_word(image: &Image, kind: LoadKind, place: u32, stores: &StoreBuf) -> Option<u32>
-    ensures client { (rd : ℕ) → result ≡ memory_side.load_client image.now (Action.Loads kind rd place) (pending stores.now) }
+    ensures client { result ≡ memory_side.asked_word image.now kind place (pending stores.now) }
     ensures within { ForSome result (λ word. word < 2 ^ 30) }
 {
     let word = place / 4;
@@ -267,6 +267,7 @@ fn served_by(value: Option<u32>) -> Served
 
 // A store is done where there is room for it, or at once outside RAM.
 fn has_room(image: &Image, word: u32, stores: &StoreBuf) -> bool
+    requires { word < 2 ^ 30 }
     ensures { result ≡ memory_side.has_room image.now word (pending stores.now) }
 {
     if image.word_in_ram(word) {

@@ -55,7 +55,9 @@ impl Struck for PortLatch {
         flip_bit(&mut self.owner, 5, k);
     }
 
-    fn fits(&self) {}
+    fn fits(&self) {
+        let _count = self.count;
+    }
 }
 
 /// What the port does in a cycle, and with which way of the set. Words and lines are word and line addresses.

@@ -27,8 +27,25 @@ pub struct CycleReport {
     pub end: Option<End>,
 }
 
+// What is seen of a cycle in which M does this.
+pub fn report_of(action: &Action, fate: &Fate, decoded: &IdEx, retired: bool, event: Option<CacheEvent>) -> CycleReport
+    ensures put { result.put ≡ byte_put action.now }
+    ensures issued { result.issued ≡ cycles.issued_from fate.now decoded.now }
+    ensures retired { result.retired ≡ retired }
+    ensures event { result.event ≡ event }
+    ensures end { result.end ≡ end_of action.now }
+{
+    CycleReport {
+        put: put_by(action),
+        issued: issued_by(fate, decoded),
+        retired,
+        event,
+        end: end_of(action),
+    }
+}
+
 // The byte that an action puts.
-pub fn put_by(action: &Action) -> Option<u8>
+fn put_by(action: &Action) -> Option<u8>
     ensures { result ≡ byte_put action.now }
 {
     match action {
@@ -38,7 +55,7 @@ pub fn put_by(action: &Action) -> Option<u8>
 }
 
 // How an action ends the run.
-pub fn end_of(action: &Action) -> Option<End>
+fn end_of(action: &Action) -> Option<End>
     ensures { result ≡ end_of action.now }
 {
     match action {
@@ -49,7 +66,7 @@ pub fn end_of(action: &Action) -> Option<End>
 }
 
 // The word address of the instruction that leaves EX.
-pub fn issued_by(fate: &Fate, decoded: &IdEx) -> Option<u32>
+fn issued_by(fate: &Fate, decoded: &IdEx) -> Option<u32>
     ensures { result ≡ cycles.issued_from fate.now decoded.now }
 {
     match fate {

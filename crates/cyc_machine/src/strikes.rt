@@ -12,6 +12,7 @@ impl Machine<'_> {
     pub fn in_range(&self, place: &Place) -> bool
         ensures { IsTrue result ↔ InRange self.now place.now }
     {
+        self.cache.is_cache();
         place.bit < bits_in(place.structure, &self.cache.shape())
     }
 
