@@ -1,5 +1,6 @@
 pub mod Cycle
 pub mod Memory
+pub mod Parts
 pub mod Pipeline
 pub mod PortBits
 pub mod PortState

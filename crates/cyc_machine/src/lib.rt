@@ -6,19 +6,23 @@
 #![tactic(auto)]
 
 mod accessors;
+mod cached_memory;
 mod execute;
 mod fate;
 mod front_end;
 mod machine;
 mod memory_stage;
+mod parts;
 mod port;
 mod registers;
 mod report;
 mod strikes;
 
+pub use cached_memory::CachedMemory;
 pub use fate::Fate;
 pub use machine::Machine;
 pub use memory_stage::Served;
+pub use parts::Parts;
 pub use port::{Move, PortLatch};
 pub use registers::{ProgramCounter, RegisterFile};
 pub use report::CycleReport;

@@ -208,29 +208,6 @@ pub fn port_after(motion: &Move, port: &PortLatch) -> PortLatch
     }
 }
 
-// Does to the cache and to main memory what the port does, and gives the word that it reads.
-#[tactic(auto, unfolding(crate::specs::Memory::cache_after, crate::specs::Memory::memory_after, crate::specs::Memory::word_read))]
-pub fn access(cache: &mut Cache, memory: &mut [u8], image: &Image, motion: &Move) -> Option<u32>
-    requires fills { memory_side.FillsMiss motion.now cache.old }
-    requires size { length memory.old ≡ length image.now.ram }
-    ensures cache { cache.new ≡ memory_side.cache_after image.now motion.now memory.old cache.old }
-    ensures memory { memory.new ≡ memory_side.memory_after image.now motion.now cache.old memory.old }
-    ensures word { result ≡ memory_side.word_read motion.now cache.old }
-{
-    match motion {
-        Move::Reads { word, .. } => cache.read(*word / 4, *word % 4),
-        Move::Drains { entry, .. } => {
-            let _way = cache.write(entry.addr / 4, entry.addr % 4, entry.mask, entry.value);
-            None
-        }
-        Move::Fills { line, .. } => {
-            cache.refill(*line, image, memory);
-            None
-        }
-        _ => None,
-    }
-}
-
 // Whether M leaves, and the value for its register; `word` is the word that the port reads.
 #[tactic(auto, unfolding(crate::specs::Memory::served))]
 pub fn serve(image: &Image, action: &Action, stores: &StoreBuf, word: Option<u32>) -> Served

@@ -12,8 +12,8 @@ impl Machine<'_> {
     pub fn in_range(&self, place: &Place) -> bool
         ensures { IsTrue result ↔ InRange self.now place.now }
     {
-        self.cache.is_cache();
-        place.bit < bits_in(place.structure, &self.cache.shape())
+        self.parts.storage.cache.is_cache();
+        place.bit < bits_in(place.structure, &self.parts.storage.cache.shape())
     }
 
     /// The bit at a place.
@@ -22,21 +22,21 @@ impl Machine<'_> {
         ensures { IsTrue result ↔ (bit_at_place self.now place.now ≡ 1) }
     {
         match place.structure {
-            Structure::Pc => self.pc.bit(place.bit),
-            Structure::Npc => self.npc.bit(place.bit),
-            Structure::Bht | Structure::Btb => self.predictor.bit(place),
-            Structure::Ib => self.buffer.bit(place.bit),
-            Structure::IdEx => self.decoded.bit(place.bit),
-            Structure::ExMem => self.executed.bit(place.bit),
-            Structure::MemWb => self.written.bit(place.bit),
-            Structure::Rf => self.registers.bit(place.bit),
-            Structure::Sb => self.stores.bit(place.bit),
-            Structure::Port => self.port.bit(place.bit),
+            Structure::Pc => self.parts.pc.bit(place.bit),
+            Structure::Npc => self.parts.npc.bit(place.bit),
+            Structure::Bht | Structure::Btb => self.parts.predictor.bit(place),
+            Structure::Ib => self.parts.buffer.bit(place.bit),
+            Structure::IdEx => self.parts.decoded.bit(place.bit),
+            Structure::ExMem => self.parts.executed.bit(place.bit),
+            Structure::MemWb => self.parts.written.bit(place.bit),
+            Structure::Rf => self.parts.registers.bit(place.bit),
+            Structure::Sb => self.parts.stores.bit(place.bit),
+            Structure::Port => self.parts.port.bit(place.bit),
             Structure::CData
             | Structure::CTag
             | Structure::CValid
             | Structure::CDirty
-            | Structure::CLru => self.cache.bit(place),
+            | Structure::CLru => self.parts.storage.cache.bit(place),
         }
     }
 
@@ -46,21 +46,21 @@ impl Machine<'_> {
         ensures { self.new ≡ flip_at_place self.old place.now }
     {
         match place.structure {
-            Structure::Pc => self.pc.flip(place.bit),
-            Structure::Npc => self.npc.flip(place.bit),
-            Structure::Bht | Structure::Btb => self.predictor.flip(place),
-            Structure::Ib => self.buffer.flip(place.bit),
-            Structure::IdEx => self.decoded.flip(place.bit),
-            Structure::ExMem => self.executed.flip(place.bit),
-            Structure::MemWb => self.written.flip(place.bit),
-            Structure::Rf => self.registers.flip(place.bit),
-            Structure::Sb => self.stores.flip(place.bit),
-            Structure::Port => self.port.flip(place.bit),
+            Structure::Pc => self.parts.pc.flip(place.bit),
+            Structure::Npc => self.parts.npc.flip(place.bit),
+            Structure::Bht | Structure::Btb => self.parts.predictor.flip(place),
+            Structure::Ib => self.parts.buffer.flip(place.bit),
+            Structure::IdEx => self.parts.decoded.flip(place.bit),
+            Structure::ExMem => self.parts.executed.flip(place.bit),
+            Structure::MemWb => self.parts.written.flip(place.bit),
+            Structure::Rf => self.parts.registers.flip(place.bit),
+            Structure::Sb => self.parts.stores.flip(place.bit),
+            Structure::Port => self.parts.port.flip(place.bit),
             Structure::CData
             | Structure::CTag
             | Structure::CValid
             | Structure::CDirty
-            | Structure::CLru => self.cache.flip(place),
+            | Structure::CLru => self.parts.storage.cache.flip(place),
         }
     }
 }
