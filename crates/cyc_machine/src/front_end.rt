@@ -1,5 +1,5 @@
 // ID and IF: decoding the first entry of the instruction buffer, and fetching another.
-ghost use Rattle.std.specs.Prelude.{◌≡◌, ◌<◌, ◌^◌, ℕ, true, length, slice_get};
+ghost use Rattle.std.specs.Prelude.{◌≡◌, ◌<◌, ◌^◌, ℕ, true, drop, length, slice_get};
 ghost use Rattle.inst_buf.specs.Buffer.{entries, packed};
 ghost use Rattle.cyc_machine.specs.Pipeline as pipeline;
 
@@ -112,11 +112,18 @@ pub fn update_buffer(buffer: &mut InstBuf, fate: &Fate, image: &Image, pc: u32)
     match fate {
         Fate::Dropped => buffer.clear(),
         Fate::Stays => fill(buffer, image, pc),
-        Fate::Absent | Fate::Goes { .. } => {
-            let _first = buffer.take();
-            fill(buffer, image, pc);
-        }
+        Fate::Absent => take_and_fill(buffer, image, pc),
+        Fate::Goes { .. } => take_and_fill(buffer, image, pc),
     }
+}
+
+// The first entry was decoded.
+fn take_and_fill(buffer: &mut InstBuf, image: &Image, pc: u32)
+    requires { pc < 2 ^ 30 }
+    ensures { buffer.new ≡ packed (pipeline.filled image.now pc (drop 1 (entries buffer.old))) }
+{
+    let _first = buffer.take();
+    fill(buffer, image, pc);
 }
 
 // Fetches one more entry where there is room.
@@ -155,7 +162,11 @@ fn fetched(image: &Image, pc: u32) -> Slot
 // The next fetch address; `predicted` is the predicted next address.
 #[tactic(auto, unfolding(crate::specs::Pipeline::pc_after))]
 pub fn pc_after(fate: &Fate, predicted: u32, buffer: &InstBuf, npc: u32, pc: u32) -> u32
-    ensures { result ≡ pipeline.pc_after fate.now predicted (entries buffer.now) npc pc }
+    requires predicted { predicted < 2 ^ 30 }
+    requires npc { npc < 2 ^ 30 }
+    requires pc { pc < 2 ^ 30 }
+    ensures next { result ≡ pipeline.pc_after fate.now predicted (entries buffer.now) npc pc }
+    ensures within { result < 2 ^ 30 }
 {
     match fate {
         Fate::Dropped => npc,
@@ -165,7 +176,8 @@ pub fn pc_after(fate: &Fate, predicted: u32, buffer: &InstBuf, npc: u32, pc: u32
 }
 
 fn if_room(remaining: u32, predicted: u32, pc: u32) -> u32
-    ensures { result ≡ pipeline.if_room remaining predicted pc }
+    ensures next { result ≡ pipeline.if_room remaining predicted pc }
+    ensures within { predicted < 2 ^ 30 → pc < 2 ^ 30 → result < 2 ^ 30 }
 {
     if remaining < 4 { predicted } else { pc }
 }

@@ -37,9 +37,9 @@ found_more file hs h old new f a = record {
   interpreter = rw (list_any_push is_interpreter hs h, a.interpreter, f.interpreter) refl;
   bad_range = rw (list_any_push (has_bad_range file) hs h, a.bad_range, f.bad_range) refl;
   segments =
-    let kept : filter (is_lendable file) (h ∷ []) ≡ cond (is_lendable file h) (h ∷ []) [] = refl in
-    let one = one_more file (is_lendable file h) h in
-    rw (filter-append, map-append, a.segments, f.segments, kept, one) refl;
+      let kept : filter (is_lendable file) (h ∷ []) ≡ cond (is_lendable file h) (h ∷ []) [] = refl in
+      let one = one_more file (is_lendable file h) h in
+      rw (filter-append, map-append, a.segments, f.segments, kept, one) refl;
 }
 
 pub IsFound-more : (file : List ℕ) (k : ℕ) (old new : Found) (h : ProgramHeader) → h ≡ program_header file (headers_offset file + 32 * k) → IsFound file (first_headers file k) old → AddsHeader file h old new → IsFound file (first_headers file (k + 1)) new

@@ -5,10 +5,9 @@ ghost use Rattle.elf_load.specs.Headers as spec;
 ghost use Rattle.elf_load.specs.Refusal as refusal;
 ghost use Rattle.elf_load.specs.Walk.{is_lendable, IsFound, AddsHeader};
 
-use std::alloc::{AllocError, Global};
-
-use crate::headers::{half_at, program_header, word_at, ProgramHeader};
+use crate::headers::{ProgramHeader, half_at, program_header, word_at};
 use crate::segment::Segment;
+use std::alloc::{AllocError, Global};
 
 /// What the program headers say.
 #[derive(Drop)]
@@ -21,17 +20,18 @@ pub struct Found<'b> {
     pub segments: Vec<Segment<'b>>,
 }
 
-#[tactic(auto, unfolding(crate::specs::Refusal::has_bad_range))]
 /// Whether a loadable header's bytes end past the file, or are more than its size in memory.
+#[tactic(auto, unfolding(crate::specs::Refusal::has_bad_range))]
 fn has_bad_range(file: &[u8], header: &ProgramHeader) -> bool
     ensures { result ≡ refusal.has_bad_range file.now header.now }
 {
     header.kind == 1
-        && (file.len() < header.offset as usize + header.filesz as usize || header.memsz < header.filesz)
+        && (file.len() < header.offset as usize + header.filesz as usize
+            || header.memsz < header.filesz)
 }
 
-#[tactic(auto, unfolding(crate::specs::Walk::is_lendable, crate::specs::Refusal::has_bad_range, crate::specs::Headers::is_loadable, crate::specs::Headers::segment_of, crate::specs::Answers::lent))]
 /// The segment of a loadable header with its bytes in the file.
+#[tactic(auto, unfolding(crate::specs::Walk::is_lendable, crate::specs::Refusal::has_bad_range, crate::specs::Headers::is_loadable, crate::specs::Headers::segment_of, crate::specs::Answers::lent))]
 fn segment<'b>(file: &'b [u8], header: &ProgramHeader) -> Option<Segment<'b>>
     ensures { MatchOption result (is_lendable file.now header.now ≡ false)
         (λ s. IsTrue (is_lendable file.now header.now) × (lent s ≡ spec.segment_of file.now header.now)) }
@@ -48,8 +48,8 @@ fn segment<'b>(file: &'b [u8], header: &ProgramHeader) -> Option<Segment<'b>>
     })
 }
 
-#[tactic(auto, unfolding(crate::specs::Refusal::is_interpreter))]
 /// Takes one more header into account.
+#[tactic(auto, unfolding(crate::specs::Refusal::is_interpreter))]
 fn add<'b>(found: &mut Found<'b>, file: &'b [u8], header: &ProgramHeader) -> Result<(), AllocError>
     ensures { OnOk result (AddsHeader file.now header.now found.old found.new) }
 {
@@ -61,8 +61,8 @@ fn add<'b>(found: &mut Found<'b>, file: &'b [u8], header: &ProgramHeader) -> Res
     Ok(())
 }
 
-#[tactic(auto, using(crate::proofs::FileHeader::accepted))]
 /// Walks over the program headers.
+#[tactic(auto, using(crate::proofs::FileHeader::accepted))]
 pub fn walk<'b>(alloc: Global, file: &'b [u8]) -> Result<Found<'b>, AllocError>
     requires { refusal.file_refusal file.now ≡ None }
     ensures { IfOk result (IsFound file.now (spec.program_headers file.now)) }

@@ -1,14 +1,14 @@
 -- The byte of the youngest store that holds one.
-use Rattle.std.proofs.Common.{◌≡◌, ℕ, zero, suc, ◌+◌, ◌/◌, ◌%◌, ◌^◌, ◌<◌, Bool, true, false, List, [], ◌∷◌, ◌++◌, length, take, drop, get_or, cond, not, refl, sym, ◌∙◌, ap, arith, filter, ◌&&◌, add-one}
-use Rattle.std.specs.Prelude.{Option, Some, None, ◌==◌}
+use Rattle.std.proofs.Common.{◌≡◌, ℕ, ◌+◌, ◌<◌, Bool, true, false, List, [], ◌∷◌, ◌++◌, length, take, get_or, cond, refl, sym, ◌∙◌, ap, arith}
+use Rattle.std.specs.Prelude.{Option, Some, None}
 use Rattle.std.specs.Option.{option_or}
 use Rattle.std.proofs.lemmas.Bool.Decides.{nat_tests}
 use Rattle.std.proofs.lemmas.List.{take_more}
 use Rattle.std.proofs.lemmas.Nat.Bits.{bit_at-zero}
-use Rattle.store_buf.specs.Entry.{Entry, no_entry, has_lane}
+use Rattle.store_buf.specs.Entry.{Entry, has_lane}
 use Rattle.store_buf.specs.Pending.{is_pending, pending}
 use Rattle.store_buf.proofs.Packed.{mask-free}
-use Rattle.store_buf.specs.Covers.{held, found, lane_byte}
+use Rattle.store_buf.specs.Covers.{held, found}
 
 or_assoc : (a b c : Option ℕ) → option_or (option_or a b) c ≡ option_or a (option_or b c)
 or_assoc (Some x) b c = refl

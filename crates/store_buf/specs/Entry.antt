@@ -1,5 +1,5 @@
 -- What a slot of the store buffer holds: a store to one word that hasn't reached the cache.
-use Rattle.std.specs.Prelude.{◌≡◌, ℕ, ◌==◌, Bool}
+use Rattle.std.specs.Prelude.{ℕ, ◌==◌, Bool}
 use Rattle.std.specs.Int.{bit_at}
 
 pub record Entry : Type 0 where

@@ -1,5 +1,7 @@
 // The bit numbers of the buffer, the order of its stores, and a table of covers worked out by hand from the written rule.
 
+ghost use Rattle.std.specs.Prelude.{◌≡◌, ◌<◌};
+
 use super::*;
 use bit_field::Struck;
 
@@ -52,6 +54,8 @@ fn stores_leave_in_order(rt: HostRuntime) {
         buffer.flip(k);
     }
     assert_eq!(rt; buffer.len(), 3);
+    buffer.ripple();
+    assert!(rt; buffer.slot(1) == store(15, 9, 9));
     assert!(rt; buffer.oldest() == Some(store(15, 7, 7)));
     assert!(rt; buffer.drain() == Some(store(15, 7, 7)));
     assert!(rt; buffer.slot(0) == store(15, 9, 9));

@@ -1,5 +1,5 @@
 -- The sizes that a shape gives.
-use Rattle.std.proofs.Common.{◌≡◌, ◌⊎◌, ℕ, ◌+◌, ◌-◌, ◌*◌, ◌/◌, ◌^◌, ◌<◌, ◌≤◌, arith}
+use Rattle.std.proofs.Common.{◌≡◌, ◌⊎◌, inl, inr, ℕ, ◌+◌, ◌-◌, ◌*◌, ◌/◌, ◌%◌, ◌^◌, ◌<◌, ◌≤◌, arith}
 use Rattle.bit_field.specs.declared.shapes.Shape.{Shape}
 use Rattle.bit_field.specs.Shapes.{IsShape, slots as slot_count, tag_bits, index_bits}
 use Rattle.wb_cache.specs.Contents.{slot_of}
@@ -16,13 +16,6 @@ slots_most_by sets ways p q = grind arith
 pub slots_most : (s : Shape) → IsShape s → slot_count s ≤ 512
 slots_most s shape = slots_most_by s.sets s.ways shape.sets shape.ways
 
-tag_below_by : (sets line : ℕ) → (sets ≡ 16) ⊎ (sets ≡ 32) ⊎ (sets ≡ 64) ⊎ (sets ≡ 128) → line < 2 ^ 28 → line / sets < 2 ^ (28 - index_bits sets)
-tag_below_by sets line p h = grind arith
-
--- the tag of a line has its width
-pub tag_below : (s : Shape) (line : ℕ) → IsShape s → line < 2 ^ 28 → line / s.sets < 2 ^ tag_bits s
-tag_below s line shape h = tag_below_by s.sets line shape.sets h
-
 line_below_by : (sets set tag : ℕ) → (sets ≡ 16) ⊎ (sets ≡ 32) ⊎ (sets ≡ 64) ⊎ (sets ≡ 128) → set < sets → tag < 2 ^ (28 - index_bits sets) → sets * tag + set < 2 ^ 28
 line_below_by sets set tag p h l = grind arith
 
@@ -36,3 +29,16 @@ slot_apart_by ways set way s w p h l e = grind arith
 -- slots of one number are one slot
 pub slot_apart : (shape : Shape) (set way s w : ℕ) → IsShape shape → way < shape.ways → w < shape.ways → slot_of shape s w ≡ slot_of shape set way → (s ≡ set) × (w ≡ way)
 slot_apart shape set way s w is h l e = slot_apart_by shape.ways set way s w is.ways h l e
+
+set_below_by : (sets line : ℕ) → (sets ≡ 16) ⊎ (sets ≡ 32) ⊎ (sets ≡ 64) ⊎ (sets ≡ 128) → line % sets < sets
+set_below_by sets line p = grind arith
+
+pub set_below : (s : Shape) (line : ℕ) → IsShape s → line % s.sets < s.sets
+set_below s line shape = set_below_by s.sets line shape.sets
+
+-- each slot is that of a way of a set
+split_by : (sets ways l : ℕ) → (ways ≡ 1) ⊎ (ways ≡ 2) ⊎ (ways ≡ 4) → l < sets * ways → (l / ways < sets) × (l % ways < ways) × (ways * (l / ways) + l % ways ≡ l)
+split_by sets ways l p h = (grind arith, grind arith, grind arith)
+
+pub slot-split : (s : Shape) (l : ℕ) → IsShape s → l < slot_count s → (l / s.ways < s.sets) × (l % s.ways < s.ways) × (slot_of s (l / s.ways) (l % s.ways) ≡ l)
+slot-split s l shape h = split_by s.sets s.ways l shape.ways h

@@ -35,6 +35,21 @@ pub byte-inside : (c : Contents) (set way o : ℕ) → set < c.shape.sets → wa
 unfolding slot_at
 byte-inside c set way o h l m = rw (slots-inside c set way h l) (grind (arith, nat_tests))
 
+past_inside : (c : Contents) (set way o : ℕ) → set < c.shape.sets → way < c.shape.ways → 16 ≤ o → (slots c set way).bytes o ≡ 0
+unfolding slot_at
+past_inside c set way o h l m = rw (slots-inside c set way h l) (grind (arith, nat_tests))
+
+-- no slot has more than 16 bytes
+pub byte-past : (c : Contents) (set way o : ℕ) → 16 ≤ o → (slots c set way).bytes o ≡ 0
+byte-past c set way o m =
+    elim (cases_lt set c.shape.sets) [
+      inr out ↦ ap (λ (s : Slot). s.bytes o) (slots-outside c set way (inl out))
+    | inl h ↦ elim (cases_lt way c.shape.ways) [
+        inr out ↦ ap (λ (s : Slot). s.bytes o) (slots-outside c set way (inr out))
+      | inl l ↦ past_inside c set way o h l m
+      ]
+    ]
+
 pub ruleset insides = (valid-inside, dirty-inside, tag-inside, byte-inside)
 
 -- slots with equal parts are equal

@@ -39,10 +39,18 @@ filled_slot shape ram line = record {
   bytes = λ o. cond (nat_lt o 16) (ram (16 * line + o)) 0;
 }
 
--- a slot with a bit of its data, of its tag, its valid bit or its dirty bit flipped; bit k of the data is bit k % 8 of byte k / 8
-abbrev pub with_data_bit : ℕ → Slot → Slot
+-- the set and the way of slot l
+abbrev pub set_at : Shape → ℕ → ℕ
+set_at shape l = l / shape.ways
+
+abbrev pub way_at : Shape → ℕ → ℕ
+way_at shape l = l % shape.ways
+
+-- a slot with bit k of its data flipped, which is bit k % 8 of byte k / 8
+unfoldable pub with_data_bit : ℕ → Slot → Slot
 with_data_bit k slot = record slot { bytes = λ o. cond (o == k / 8) (bit_xor (slot.bytes o) (2 ^ (k % 8))) (slot.bytes o) }
 
+-- a slot with bit k of its tag, with its valid bit or with its dirty bit flipped
 abbrev pub with_tag_bit : ℕ → Slot → Slot
 with_tag_bit k slot = record slot { tag = bit_xor slot.tag (2 ^ k) }
 

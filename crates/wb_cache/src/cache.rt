@@ -231,7 +231,7 @@ impl Cache {
         line % self.sets()
     }
 
-    #[tactic(auto, using(crate::proofs::Sizes::tag_below))]
+    #[tactic(auto, using(bit_field::proofs::CacheShape::tag_below))]
     fn tag_of(&self, line: u32) -> u32
         ensures value { result ≡ lookups.tag_of self.now.shape line }
         ensures within { line < 2 ^ 28 → result < 2 ^ shape_words.tag_bits self.now.shape }

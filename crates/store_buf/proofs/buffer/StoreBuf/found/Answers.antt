@@ -1,4 +1,4 @@
-use Rattle.std.proofs.Common.{◌≡◌, ◌<◌, ◌≤◌, List, length, arith, ap, refl, sym, take, ◌∙◌}
+use Rattle.std.proofs.Common.{◌<◌, ◌≤◌, List, length, arith, ap, refl, sym, ◌∙◌}
 use Rattle.std.proofs.lemmas.List.{take_all}
 use Rattle.store_buf.specs.Covers.{found}
 use Rattle.store_buf.specs.Entry.{Entry}
