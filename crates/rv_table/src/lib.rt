@@ -14,15 +14,20 @@ mod execution;
 mod form;
 mod op;
 mod operation;
+mod spelling;
 
 pub use access::{load_value, store_word};
 pub use action::{Access, Action, asked, is_clocked, is_counter, next_address, with_counter};
 pub use arithmetic::{alu, holds};
 pub use decoding::decode;
-pub use encoding::{has_row, well_formed};
+pub use encoding::{encode, has_row, well_formed};
 pub use execution::{Computed, compute};
 pub use form::{Form, form_of};
 pub use op::Op;
 pub use operation::{
     AluKind, BranchKind, CounterKind, LoadKind, Operation, StoreKind, operation_of,
 };
+pub use spelling::{OutOfMemory, text};
+
+#[cfg(test)]
+mod tests;
