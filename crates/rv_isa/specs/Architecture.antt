@@ -1,7 +1,8 @@
 -- The architectural state as the program holds it, in lists, and the state of the instruction set's run that it stands for.
-use Rattle.std.specs.Prelude.{◌≡◌, ℕ, ◌-◌, ◌^◌, ◌<◌, Bool, List, [], length, slice_index, Option, None, if◌then◌else◌}
+use Rattle.std.specs.Prelude.{◌≡◌, ℕ, ◌+◌, ◌-◌, ◌^◌, ◌<◌, ◌&&◌, nat_le, nat_lt, List, [], length, slice_index, None, if◌then◌else◌}
 use Rattle.elf_load.specs.Image.{LoadedImage, IsImage, in_ram}
 use Rattle.rv_isa.specs.Instruction.{State}
+use Rattle.rv_table.specs.Accesses.{byte_of}
 
 pub record ArchState : Type 0 where
   pub image : LoadedImage
@@ -14,6 +15,11 @@ pub record ArchState : Type 0 where
 -- byte p of a RAM with these bytes, 0 outside RAM
 abbrev pub ram_byte : LoadedImage → List ℕ → ℕ → ℕ
 ram_byte image bytes p = if in_ram image p then slice_index bytes (p - image.base) else 0
+
+-- byte p of a list in which the low bytes of a value stand from index `at` on
+abbrev pub byte_stored : ℕ → ℕ → ℕ → List ℕ → ℕ → ℕ
+byte_stored at size value bytes p =
+    if nat_le at p && nat_lt p (at + size) then byte_of value (p - at) else slice_index bytes p
 
 -- the same with registers and memory as functions; nothing is logged, and no end has come
 abbrev pub state_of : ArchState → State
@@ -34,4 +40,5 @@ pub record IsArchState (arch : ArchState) : Type 0 where
   pub register_count : length arch.registers ≡ 32
   pub register_zero : slice_index arch.registers 0 ≡ 0
   pub memory_size : length arch.memory ≡ length arch.image.ram
+  pub memory_bytes : (k : ℕ) → slice_index arch.memory k < 256
   pub pc : arch.pc < 2 ^ 30

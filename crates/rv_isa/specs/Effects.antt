@@ -1,5 +1,5 @@
 -- What one instruction does, told from outside, and what committing it changes.
-use Rattle.std.specs.Prelude.{◌≡◌, ℕ, ◌+◌, ◌-◌, ◌*◌, ◌/◌, ◌%◌, ◌<◌, ◌==◌, ◌&&◌, ◌⊎◌, Bool, nat_le, nat_lt, IsTrue, Option, Some, None, if◌then◌else◌}
+use Rattle.std.specs.Prelude.{◌≡◌, ℕ, ◌+◌, ◌-◌, ◌*◌, ◌/◌, ◌%◌, ◌<◌, ◌==◌, ◌&&◌, ◌⊎◌, nat_le, nat_lt, IsTrue, Option, Some, None, if◌then◌else◌}
 use Rattle.std.specs.Option.{ForSome}
 use Rattle.elf_load.specs.Image.{LoadedImage, in_ram}
 use Rattle.rv_isa.specs.Instruction.{State, reg, put_reg, given, end_of, with_byte, first_clock, later_clocks, next_count, action_in, completed, op_at}
@@ -10,7 +10,7 @@ use Rattle.rv_table.specs.Actions.{next_address, with_counter, is_clocked}
 use Rattle.rv_table.specs.Effects.{byte_put, written_register}
 use Rattle.rv_table.specs.declared.op.Op.{Op}
 use Rattle.rv_table.specs.declared.action.Action.{Action}
-use Rattle.rv_table.specs.declared.action.Action.TheVariants.{Nothing, Writes, Loads, Stores, Puts, Exits, Traps}
+use Rattle.rv_table.specs.declared.action.Action.TheVariants.{Loads, Stores}
 
 -- the register that an action writes, but for register 0, and its value
 abbrev pub write_of : LoadedImage → Action → (ℕ → ℕ) → Option (ℕ × ℕ)
