@@ -1,10 +1,10 @@
 -- The highest 1 of a number, and the mask of the bits that are not above it.
-use Rattle.std.proofs.Common.{◌≡◌, ◌↔◌, ℕ, suc, ◌+◌, ◌-◌, ◌*◌, ◌/◌, ◌%◌, ◌^◌, ◌<◌, ◌≤◌, refl, sym, ◌∙◌, ap, arith, inl, inr}
+use Rattle.std.proofs.Common.{◌≡◌, ◌↔◌, ℕ, suc, ◌+◌, ◌-◌, ◌/◌, ◌%◌, ◌^◌, ◌<◌, ◌≤◌, ap, arith, inl, inr}
 use Rattle.std.specs.Int.{bit_at}
 use lib.Count.{count_leading_zeros}
 use Rattle.std.proofs.Math.Nat.{div-eq_of_lt-le, pow-suc}
 use Rattle.std.proofs.lemmas.Bool.{cases_lt}
-use Rattle.std.proofs.lemmas.Nat.{leading_top, leading_le}
+use Rattle.std.proofs.lemmas.Nat.{leading_top}
 use Rattle.std.proofs.lemmas.Nat.Bits.{bit_at_above, bit_at_ones, bit_at_ones_above, bit_at-zero, ones_shr}
 
 -- a number from 2 ^ j below 2 ^ (j + 1) has bit j

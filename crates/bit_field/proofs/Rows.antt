@@ -2,10 +2,10 @@
 use Rattle.std.proofs.Common.{◌≡◌, ◌≢◌, ℕ, ◌+◌, ◌-◌, ◌^◌, ◌<◌, ◌≤◌, Bool, true, false, List, [], ◌∷◌, cond, not, refl, sym, ◌∙◌, ap, arith, inl, inr, ◌⊎◌}
 use Rattle.std.specs.Int.{bit_at}
 use Rattle.std.specs.Prelude.{bit_xor, nat_lt, nat_eq}
-use Rattle.std.proofs.lemmas.Bool.{cases_lt, cases_eq, eq-eqb, ne_eqb, eqb-true}
+use Rattle.std.proofs.lemmas.Bool.{cases_lt, cases_eq, eq-eqb, ne_eqb}
 use Rattle.std.proofs.lemmas.Bool.Decides.{nat_tests}
 use Rattle.std.proofs.lemmas.Nat.Bits.{bit_at-lt, same_from_bits_below}
-use Rattle.bit_field.specs.Fields.{is_in, flip_field, end_of, bit_of_row, flip_row, IsRow, number_of, flip_bool}
+use Rattle.bit_field.specs.Fields.{flip_field, end_of, bit_of_row, flip_row, IsRow, number_of, flip_bool}
 use Rattle.bit_field.specs.Laws.{FlipLaws}
 use Rattle.bit_field.proofs.Bits.{bit_at-flip_same, bit_at-flip_other, flip_below, flip_twice}
 

@@ -7,6 +7,7 @@ ghost use Rattle.bit_field.specs.Fields.{flip_field, flip_bool};
 
 /// Flips bit `k` of a row in the field of `width` bits that begins at `from`, where it is one of the
 /// field's; else nothing changes.
+#[tactic(auto, using(crate::proofs::Bits::shifted_below_32))]
 pub fn flip_u32(word: &mut u32, from: u32, width: u32, k: u32)
     requires width { width ≤ 32 }
     requires end { from + width < 2 ^ 32 }
@@ -19,6 +20,7 @@ pub fn flip_u32(word: &mut u32, from: u32, width: u32, k: u32)
 }
 
 /// `flip_u32` for a field of at most 8 bits.
+#[tactic(auto, using(crate::proofs::Bits::shifted_below_8))]
 pub fn flip_u8(byte: &mut u8, from: u32, width: u32, k: u32)
     requires width { width ≤ 8 }
     requires end { from + width < 2 ^ 32 }
@@ -48,6 +50,7 @@ pub fn bit_at(value: u32, k: u32) -> bool
 }
 
 /// Flips bit `k` of a number of `width` bits.
+#[tactic(auto, using(crate::proofs::Bits::shifted_below_8))]
 pub fn flip_at_u8(byte: &mut u8, width: u32, k: u32)
     requires place { k < width }
     requires width { width ≤ 8 }
@@ -58,6 +61,7 @@ pub fn flip_at_u8(byte: &mut u8, width: u32, k: u32)
 }
 
 /// Flips bit `k` of a number of `width` bits.
+#[tactic(auto, using(crate::proofs::Bits::shifted_below_32))]
 pub fn flip_at_u32(word: &mut u32, width: u32, k: u32)
     requires place { k < width }
     requires width { width ≤ 32 }

@@ -1,8 +1,8 @@
 -- The list of the valid slots, and the slots that hold a list.
-use Rattle.std.proofs.Common.{◌≡◌, ℕ, zero, suc, ◌+◌, ◌-◌, ◌<◌, ◌≤◌, Bool, true, false, List, [], ◌∷◌, ◌++◌, length, filter, take, drop, replicate, get_or, cond, refl, sym, ◌∙◌, ap, arith, append_assoc, append-nil, length-append, slice_get, Some, take-append-drop, add-one}
+use Rattle.std.proofs.Common.{◌≡◌, ℕ, zero, suc, ◌+◌, ◌-◌, ◌<◌, ◌≤◌, Bool, true, false, List, [], ◌∷◌, ◌++◌, length, take, drop, replicate, get_or, cond, refl, sym, ◌∙◌, ap, arith, append_assoc, append-nil, length-append, slice_get, Some, take-append-drop}
 use Rattle.std.proofs.Math.ListN.{set}
 use Rattle.std.specs.List.{All}
-use Rattle.std.proofs.lemmas.List.{set_at, length-replicate, length-set, take_more, take_all}
+use Rattle.std.proofs.lemmas.List.{set_at, length-replicate}
 use Rattle.std.proofs.lemmas.List.Elements.{filter_more, filter-append, filter_passes, All-tail}
 use Rattle.inst_buf.specs.Entry.{Entry, no_entry}
 use Rattle.inst_buf.specs.Buffer.{entries, packed}

@@ -1,5 +1,5 @@
 -- EX/MEM and actions.
-use Rattle.std.specs.Prelude.{◌≡◌, ◌≢◌, ◌↔◌, ◌⊎◌, ℕ, ◌≤◌, false, IsTrue, refl}
+use Rattle.std.specs.Prelude.{◌≡◌, ◌≢◌, ◌↔◌, ◌⊎◌, ℕ, ◌≤◌, true, false, IsTrue, refl}
 use Rattle.std.proofs.Common.{arith}
 use Rattle.std.proofs.lemmas.Bool.Decides.{nat_tests}
 use Rattle.rv_table.specs.declared.action.Action.{Action}
@@ -24,6 +24,15 @@ action_of-no_executed = refl
 pub action_of-invalid : (m : ExecutedLatch) → m.valid ≡ false → action_of m ≡ Nothing
 unfolding action_of
 action_of-invalid m e = grind arith
+
+-- a valid latch does something, and so does what an action is put into
+pub action_of-valid : (m : ExecutedLatch) → m.valid ≡ true → action_of m ≢ Nothing
+unfolding action_of
+action_of-valid m e = grind (arith, nat_tests)
+
+pub latch_of-valid : (a : Action) → a ≢ Nothing → (latch_of a).valid ≡ true
+unfolding latch_of
+latch_of-valid a ne = grind arith
 
 -- the cause is read of a trap alone
 pub action_of-cause : (m : ExecutedLatch) (cause : ℕ) → m.kind ≢ 11 → action_of (record m { cause = cause }) ≡ action_of m

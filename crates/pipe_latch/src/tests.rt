@@ -3,6 +3,7 @@ ghost use Rattle.std.specs.Prelude.{◌<◌};
 
 use super::*;
 use bit_field::Struck;
+use elf_load::load;
 use rv_table::{Action, LoadKind, StoreKind};
 use std::process::Abort;
 
@@ -176,4 +177,115 @@ fn actions(rt: HostRuntime) {
         cause: 8,
     };
     assert_eq!(rt; latch_for(&Action::Traps(8)), trap);
+}
+
+// An image of the one word ECALL, executable, at 0x10000: the RAM is 0x10000 to 0x10FFFF.
+const ONE_WORD: [u8; 88] = [
+    0x7F, 0x45, 0x4C, 0x46, 1, 1, 1, 0, 0, 0, 0, 0, 0, 0, 0, 0, 2, 0, 243, 0, 1, 0, 0, 0, 0, 0, 1,
+    0, 52, 0, 0, 0, 0, 0, 0, 0, 0, 0, 0, 0, 52, 0, 32, 0, 1, 0, 0, 0, 0, 0, 0, 0, 1, 0, 0, 0, 84,
+    0, 0, 0, 0, 0, 1, 0, 0, 0, 1, 0, 4, 0, 0, 0, 4, 0, 0, 0, 5, 0, 0, 0, 4, 0, 0, 0, 0x73, 0, 0, 0,
+];
+
+fn latched(kind: u8, rd: u8, x: u32, y: u32) -> ExMem
+    requires kind { kind < 32 }
+    requires rd { rd < 32 }
+{
+    ExMem {
+        valid: true,
+        kind,
+        rd,
+        x,
+        y,
+        cause: 0,
+    }
+}
+
+fn trapped(cause: u8) -> ExMem
+    requires { cause < 16 }
+{
+    ExMem {
+        valid: true,
+        kind: 11,
+        rd: 0,
+        x: 0,
+        y: 0,
+        cause,
+    }
+}
+
+#[test]
+fn executes(rt: HostRuntime) {
+    let image = load(rt.alloc(), &ONE_WORD, 1 << 20).expect(&rt, "an image");
+    // code, immediate, a, b: what EX/MEM then holds, the next address, and what the predictor learns
+    let rows = [
+        (20, u32::MAX, 7, 0, latched(0, 9, 6, 0), 0x4001, None),
+        (
+            6,
+            8,
+            5,
+            5,
+            latched(0, 0, 0, 0),
+            0x4002,
+            Some((true, 0x4002)),
+        ),
+        (
+            6,
+            8,
+            5,
+            6,
+            latched(0, 0, 0, 0),
+            0x4001,
+            Some((false, 0x4001)),
+        ),
+        (4, 2, 0, 0, trapped(2), 0x4001, None),
+        (
+            5,
+            0,
+            0x10009,
+            0,
+            latched(0, 9, 0x10004, 0),
+            0x4002,
+            Some((true, 0x4002)),
+        ),
+        (14, 4, 0x80000, 0, latched(3, 9, 0x80004, 0), 0x4001, None),
+        (14, 0, 0x110000, 0, trapped(5), 0x4001, None),
+        (13, 1, 0x80000, 0, trapped(4), 0x4001, None),
+        (
+            17,
+            1,
+            0x80000,
+            0x1FF,
+            latched(6, 0, 0x80001, 0x1FF),
+            0x4001,
+            None,
+        ),
+        (19, 0, 0x10000, 1, trapped(6), 0x4001, None),
+        (47, 0, 0, 0, latched(0, 0, 0, 0), 0x4001, None),
+        (48, 0, 1, 65, latched(9, 0, 65, 0), 0x4001, None),
+        (48, 0, 93, 65, latched(10, 0, 65, 0), 0x4001, None),
+        (48, 0, 2, 65, trapped(8), 0x4001, None),
+        (49, 0, 0, 0, trapped(7), 0x4001, None),
+        (50, 0, 0, 123, latched(0, 9, 123, 0), 0x4001, None),
+        (63, 0, 0, 0, trapped(3), 0x4001, None),
+        (1, 0, 0, 0, trapped(1), 0x4001, None),
+    ];
+    for (op, imm, a, b, latch, next, learn) in rows {
+        assert!(rt; op < 64);
+        let d = IdEx {
+            valid: true,
+            pc: 0x4000,
+            op,
+            rd: 9,
+            rs1: 0,
+            rs2: 0,
+            a: 0,
+            b: 0,
+            imm,
+            count: 0,
+        };
+        let executed = execute(&d, a, b, &image);
+        assert_eq!(rt; executed.latch, latch, "code {op}");
+        assert_eq!(rt; executed.next, next, "code {op}");
+        assert_eq!(rt; executed.learn, learn, "code {op}");
+    }
 }
