@@ -20,15 +20,15 @@ fn push_program_header(
     Ok(())
 }
 
-// An image whose program headers have these types, all with the same segment of these words.
+// An image whose program headers have these types, all with the same segment of these words. At most 1,000 of each count.
 pub fn image(alloc: Global, kinds: &[u32], words: &[u32]) -> Result<Vec<u8>, AllocError> {
     let mut file = Vec::from_slice(alloc, file_header())?;
-    let count = kinds.len() as u16;
+    let count = kinds.len().min(1000) as u16;
     for half in [count, 0, 0, 0] {
         file.extend_from_slice(&half.to_le_bytes())?;
     }
-    let offset = 52 + 32 * kinds.len() as u32;
-    let size = 4 * words.len() as u32;
+    let offset = 52 + 32 * u32::from(count);
+    let size = 4 * words.len().min(1000) as u32;
     for kind in kinds {
         push_program_header(&mut file, *kind, offset, size)?;
     }

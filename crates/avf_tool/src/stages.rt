@@ -5,7 +5,7 @@ ghost use Rattle.avf_base.specs.declared.refusal.Refusal.TheVariants.{BadImage};
 ghost use Rattle.avf_tool.specs.Answers.{IsLoaded, IsRead, IsTraced, image_limit};
 
 use avf_base::{ReadError, Refusal, Shelf, Steps, read_file};
-use elf_load::Image;
+use elf_load::{Image, LoadError, load};
 use rv_isa::{IsaError, Trace};
 use std::alloc::Global;
 use std::sync::ledger::Ledger;
@@ -50,7 +50,11 @@ pub fn read_image<H: Shelf>(alloc: Global, shelf: &mut H, name: &str) -> Result<
 pub fn load_image(alloc: Global, contents: &[u8]) -> Result<Image, Refusal>
     ensures { IsLoaded contents.now result }
 {
-    Err(Refusal::OutOfMemory)
+    match load(alloc, contents, RAM_SIZE) {
+        Ok(image) => Ok(image),
+        Err(LoadError::Bad(reason)) => Err(Refusal::BadImage(reason)),
+        Err(LoadError::OutOfMemory) => Err(Refusal::OutOfMemory),
+    }
 }
 
 /// The trace of an image in at most `budget` instructions.
