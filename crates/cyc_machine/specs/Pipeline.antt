@@ -39,9 +39,9 @@ operand_b d m w = if is_counter (op_of_latch d) then Value 0 else operand m w d.
 unfoldable pub fate_of : DecodedLatch → ℕ → Action → ResultLatch → Bool → Fate
 fate_of d npc m w mem_goes =
     if d.valid then
-      (if d.pc == npc then
-        (if d.count == 0 && mem_goes then goes_with (operand m w d.rs1 d.a) (operand_b d m w) else Stays)
-      else Dropped)
+    (if d.pc == npc then
+    (if d.count == 0 && mem_goes then goes_with (operand m w d.rs1 d.a) (operand_b d m w) else Stays)
+    else Dropped)
     else Absent
 
 -- operand b as EX takes it: a counter read gets the number of this cycle, or the count of instructions that left EX before

@@ -12,20 +12,20 @@ use Rattle.cyc_machine.specs.PortState.{PortState}
 
 pub record State : Type 0 where
   pub image : LoadedImage
-  pub pc : ℕ                     -- word address that is fetched next
-  pub npc : ℕ                    -- word address of the instruction after the last one that left EX
-  pub tables : Tables            -- the predictor's
-  pub buffer : List Fetched      -- the four slots of the instruction buffer
+  pub pc : ℕ  -- word address that is fetched next
+  pub npc : ℕ  -- word address of the instruction after the last one that left EX
+  pub tables : Tables  -- the predictor's
+  pub buffer : List Fetched  -- the four slots of the instruction buffer
   pub d : DecodedLatch
   pub m : ExecutedLatch
   pub w : ResultLatch
-  pub registers : List ℕ         -- registers 1 to 31
-  pub stores : List Pending      -- the four slots of the store buffer
+  pub registers : List ℕ  -- registers 1 to 31
+  pub stores : List Pending  -- the four slots of the store buffer
   pub port : PortState
   pub cache : Contents
-  pub memory : List ℕ            -- main memory, from the image's base on
-  pub cycle : ℕ                  -- the number of this cycle
-  pub issued : ℕ                 -- instructions that left EX
+  pub memory : List ℕ  -- main memory, from the image's base on
+  pub cycle : ℕ  -- the number of this cycle
+  pub issued : ℕ  -- instructions that left EX
   pub ended : Bool
 
 -- before the first cycle

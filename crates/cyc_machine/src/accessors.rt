@@ -1,5 +1,6 @@
 // What the machine's parts hold.
 
+use crate::machine::Machine;
 use bit_field::Shape;
 use elf_load::Image;
 use inst_buf::InstBuf;
@@ -7,8 +8,6 @@ use pipe_latch::{ExMem, IdEx, MemWb};
 use predictor::Predictor;
 use store_buf::StoreBuf;
 use wb_cache::Cache;
-
-use crate::machine::Machine;
 
 impl<'i> Machine<'i> {
     ghost use Rattle.std.specs.Prelude.{◌≡◌, ◌<◌, ◌≤◌};

@@ -2,10 +2,9 @@
 ghost use Rattle.std.specs.Prelude.{◌≡◌, length};
 ghost use Rattle.cyc_machine.specs.Memory as memory_side;
 
+use crate::port::Move;
 use elf_load::Image;
 use wb_cache::Cache;
-
-use crate::port::Move;
 
 /// The cache, and main memory from the image's base on.
 #[derive(Drop)]
@@ -28,7 +27,9 @@ impl CachedMemory {
         match motion {
             Move::Reads { word, .. } => self.cache.read(*word / 4, *word % 4),
             Move::Drains { entry, .. } => {
-                let _way = self.cache.write(entry.addr / 4, entry.addr % 4, entry.mask, entry.value);
+                let _way = self
+                    .cache
+                    .write(entry.addr / 4, entry.addr % 4, entry.mask, entry.value);
                 None
             }
             Move::Fills { line, .. } => {

@@ -5,12 +5,11 @@ ghost use Rattle.pipe_latch.specs.LatchedActions.{action_of};
 ghost use Rattle.pipe_latch.specs.Latches.{op_of_latch};
 ghost use Rattle.cyc_machine.specs.Pipeline as pipeline;
 
+use crate::fate::Fate;
 use elf_load::Image;
 use pipe_latch::{ExMem, Executed, Forwarded, IdEx, MemWb, execute, late, operand};
 use predictor::Predictor;
 use rv_table::{Op, is_counter, with_counter};
-
-use crate::fate::Fate;
 
 // What becomes of ID/EX. `mem_goes` says whether EX/MEM leaves in this cycle.
 #[tactic(auto, unfolding(crate::specs::Pipeline::fate_of))]
@@ -83,7 +82,15 @@ pub struct Issue {
 
 // What EX leaves behind.
 #[tactic(auto, unfolding(crate::specs::Pipeline::executed_after, crate::specs::Pipeline::npc_after, crate::specs::Pipeline::lesson, crate::specs::Pipeline::issued_after, crate::specs::Pipeline::counted))]
-pub fn leave_execution(image: &Image, fate: &Fate, mem_goes: bool, d: &IdEx, now: Counts, npc: u32, m: &ExMem) -> Issue
+pub fn leave_execution(
+    image: &Image,
+    fate: &Fate,
+    mem_goes: bool,
+    d: &IdEx,
+    now: Counts,
+    npc: u32,
+    m: &ExMem,
+) -> Issue
     requires { npc < 2 ^ 30 }
     ensures executed { result.executed ≡ pipeline.executed_after image.now fate.now mem_goes d.now now.cycle now.issued m.now }
     ensures npc { result.npc ≡ pipeline.npc_after fate.now d.now now.cycle now.issued npc }

@@ -3,17 +3,22 @@ ghost use Rattle.std.specs.Prelude.{◌≡◌, ◌<◌, ◌^◌, ℕ, true, drop
 ghost use Rattle.inst_buf.specs.Buffer.{entries, packed};
 ghost use Rattle.cyc_machine.specs.Pipeline as pipeline;
 
+use crate::fate::Fate;
+use crate::registers::RegisterFile;
 use elf_load::Image;
 use inst_buf::{InstBuf, Slot};
 use pipe_latch::{IdEx, MemWb, late};
 use rv_table::{Op, decode};
 
-use crate::fate::Fate;
-use crate::registers::RegisterFile;
-
 // The next ID/EX.
 #[tactic(auto, unfolding(crate::specs::Pipeline::decoded_after))]
-pub fn decoded_after(fate: &Fate, d: &IdEx, buffer: &InstBuf, w: &MemWb, registers: &RegisterFile) -> IdEx
+pub fn decoded_after(
+    fate: &Fate,
+    d: &IdEx,
+    buffer: &InstBuf,
+    w: &MemWb,
+    registers: &RegisterFile,
+) -> IdEx
     ensures { result ≡ pipeline.decoded_after fate.now d.now (entries buffer.now) w.now registers.now }
 {
     match fate {

@@ -1,5 +1,10 @@
 // The machine: its state and one cycle.
 
+use crate::cached_memory::CachedMemory;
+use crate::parts::Parts;
+use crate::port::PortLatch;
+use crate::registers::{ProgramCounter, RegisterFile};
+use crate::report::CycleReport;
 use avf_base::{OutOfMemory, Steps};
 use bit_field::{Shape, plain_shape};
 use elf_load::Image;
@@ -11,12 +16,6 @@ use std::marker::Model;
 use std::sync::ledger::Ledger;
 use store_buf::StoreBuf;
 use wb_cache::Cache;
-
-use crate::cached_memory::CachedMemory;
-use crate::parts::Parts;
-use crate::port::PortLatch;
-use crate::registers::{ProgramCounter, RegisterFile};
-use crate::report::CycleReport;
 
 /// The machine: the sixteen structures that can be struck, main memory, and the numbers that go with a run.
 #[derive(Drop)]
@@ -52,7 +51,11 @@ impl<'i> Machine<'i> {
 
     /// A machine of a shape at reset on an image whose RAM has the shape's size.
     #[tactic(auto, unfolding(crate::specs::State::reset))]
-    pub fn shaped(alloc: Global, image: &'i Image, shape: &Shape) -> Result<Machine<'i>, OutOfMemory>
+    pub fn shaped(
+        alloc: Global,
+        image: &'i Image,
+        shape: &Shape,
+    ) -> Result<Machine<'i>, OutOfMemory>
         requires { IsShape shape.now }
         ensures { IfOk result (λ m. m ≡ reset image.now shape.now) }
     {

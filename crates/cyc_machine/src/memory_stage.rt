@@ -7,13 +7,12 @@ ghost use Rattle.rv_table.specs.Effects.{written_register};
 ghost use Rattle.wb_cache.specs.Access.{found};
 ghost use Rattle.cyc_machine.specs.Memory as memory_side;
 
+use crate::port::{Move, PortLatch};
 use elf_load::Image;
 use pipe_latch::MemWb;
 use rv_table::{Action, LoadKind, StoreKind, load_value, store_word};
 use store_buf::{Cover, Pending, StoreBuf};
 use wb_cache::Cache;
-
-use crate::port::{Move, PortLatch};
 
 /// Whether the instruction in EX/MEM leaves in this cycle, and the value for its register.
 #[derive(Clone, Copy, Debug, PartialEq, Eq)]
@@ -256,7 +255,13 @@ fn has_room(image: &Image, word: u32, stores: &StoreBuf) -> bool
 
 // The value of M's load, if it is done.
 #[tactic(auto, unfolding(crate::specs::Memory::load_value))]
-fn loaded(image: &Image, kind: LoadKind, place: u32, stores: &StoreBuf, word: Option<u32>) -> Option<u32>
+fn loaded(
+    image: &Image,
+    kind: LoadKind,
+    place: u32,
+    stores: &StoreBuf,
+    word: Option<u32>,
+) -> Option<u32>
     ensures { result ≡ memory_side.load_value image.now kind place (pending stores.now) word }
 {
     if !image.word_in_ram(place / 4) {

@@ -1,13 +1,5 @@
 // The machine's parts, and one cycle of them.
 
-use avf_base::Steps;
-use elf_load::Image;
-use inst_buf::InstBuf;
-use pipe_latch::{ExMem, IdEx, MemWb};
-use predictor::Predictor;
-use std::sync::ledger::Ledger;
-use store_buf::StoreBuf;
-
 use crate::cached_memory::CachedMemory;
 use crate::execute::{Counts, fate_of, leave_execution, train};
 use crate::front_end::{decoded_after, pc_after, update_buffer};
@@ -17,6 +9,13 @@ use crate::memory_stage::{
 use crate::port::PortLatch;
 use crate::registers::{ProgramCounter, RegisterFile};
 use crate::report::{CycleReport, event_of, report_of};
+use avf_base::Steps;
+use elf_load::Image;
+use inst_buf::InstBuf;
+use pipe_latch::{ExMem, IdEx, MemWb};
+use predictor::Predictor;
+use std::sync::ledger::Ledger;
+use store_buf::StoreBuf;
 
 /// The sixteen structures, main memory, and the numbers that go with a run.
 #[derive(Drop)]
@@ -67,14 +66,37 @@ impl Parts<'_> {
         let event = event_of(&motion, &action, self.cycle, &self.storage.cache);
         let word = self.storage.access(image, &motion);
         let served = serve(image, &action, &self.stores, word);
-        let fate = fate_of(&self.decoded, self.npc.get(), &self.executed, &self.written, served.goes);
+        let fate = fate_of(
+            &self.decoded,
+            self.npc.get(),
+            &self.executed,
+            &self.written,
+            served.goes,
+        );
         let retired = self.executed.valid && served.goes;
         let report = report_of(&action, &fate, &self.decoded, retired, event);
         let predicted = self.predictor.next(fetch);
         let next = pc_after(&fate, predicted, &self.buffer, self.npc.get(), fetch);
-        let now = Counts { cycle: self.cycle, issued: self.issued };
-        let issue = leave_execution(image, &fate, served.goes, &self.decoded, now, self.npc.get(), &self.executed);
-        let decoded = decoded_after(&fate, &self.decoded, &self.buffer, &self.written, &self.registers);
+        let now = Counts {
+            cycle: self.cycle,
+            issued: self.issued,
+        };
+        let issue = leave_execution(
+            image,
+            &fate,
+            served.goes,
+            &self.decoded,
+            now,
+            self.npc.get(),
+            &self.executed,
+        );
+        let decoded = decoded_after(
+            &fate,
+            &self.decoded,
+            &self.buffer,
+            &self.written,
+            &self.registers,
+        );
         train(&mut self.predictor, issue.lesson, self.decoded.pc);
         update_buffer(&mut self.buffer, &fate, image, fetch);
         update_stores(&mut self.stores, image, &action, &motion);

@@ -66,9 +66,15 @@ pub enum Move {
     /// No client is there.
     Rests,
     /// Serves the load client.
-    Reads { word: u32, way: u32 },
+    Reads {
+        word: u32,
+        way: u32,
+    },
     /// Serves the store client.
-    Drains { entry: Pending, way: u32 },
+    Drains {
+        entry: Pending,
+        way: u32,
+    },
     /// A look-up misses: its client waits `count` cycles, and `way` is the victim at this moment.
     Misses {
         line: u32,
@@ -81,5 +87,8 @@ pub enum Move {
     /// The client is absent, or its line is there: the port is free again.
     Leaves,
     /// Reads the line into the way, whose line is written back first where it is dirty.
-    Fills { line: u32, way: u32 },
+    Fills {
+        line: u32,
+        way: u32,
+    },
 }

@@ -4,13 +4,12 @@ ghost use Rattle.rv_table.specs.Effects.{byte_put};
 ghost use Rattle.rv_isa.specs.Instruction.{end_of};
 ghost use Rattle.cyc_machine.specs.Cycle as cycles;
 
+use crate::fate::Fate;
+use crate::port::Move;
 use avf_base::End;
 use pipe_latch::IdEx;
 use rv_table::Action;
 use wb_cache::{Cache, CacheEvent, EventKind};
-
-use crate::fate::Fate;
-use crate::port::Move;
 
 /// What is seen of one cycle.
 #[derive(Clone, Copy, Debug, PartialEq, Eq)]
@@ -28,7 +27,13 @@ pub struct CycleReport {
 }
 
 // What is seen of a cycle in which M does this.
-pub fn report_of(action: &Action, fate: &Fate, decoded: &IdEx, retired: bool, event: Option<CacheEvent>) -> CycleReport
+pub fn report_of(
+    action: &Action,
+    fate: &Fate,
+    decoded: &IdEx,
+    retired: bool,
+    event: Option<CacheEvent>,
+) -> CycleReport
     ensures put { result.put ≡ byte_put action.now }
     ensures issued { result.issued ≡ cycles.issued_from fate.now decoded.now }
     ensures retired { result.retired ≡ retired }
@@ -99,7 +104,13 @@ pub fn event_of(motion: &Move, action: &Action, cycle: u32, cache: &Cache) -> Op
             mask: entry.mask,
             word: entry.addr % 4,
         }),
-        Move::Misses { line, way, .. } => Some(line_event(cycle, EventKind::Miss, *line, *way, sets)),
+        Move::Misses { line, way, .. } => Some(line_event(
+            cycle,
+            EventKind::Miss,
+            *line,
+            *way,
+            sets,
+        )),
         Move::Fills { line, way } => Some(line_event(cycle, EventKind::Fill, *line, *way, sets)),
         Move::Rests | Move::Waits | Move::Leaves => None,
     }

@@ -1,8 +1,7 @@
 // Strikes: the machine's bits by place.
 
-use bit_field::{Place, Struck, Structure, bits_in};
-
 use crate::machine::Machine;
+use bit_field::{Place, Struck, Structure, bits_in};
 
 impl Machine<'_> {
     ghost use Rattle.std.specs.Prelude.{◌≡◌, ◌↔◌, IsTrue};

@@ -8,4 +8,4 @@ pub returns : goal.returns
 returns c =
     c.fill.ensures
     ∙ ap (λ es. packed (filled c.args.image.now c.args.pc es))
-      (ap entries c.take-first.ensures.rest ∙ entries-later c.args.buffer.now)
+    (ap entries c.take-first.ensures.rest ∙ entries-later c.args.buffer.now)
