@@ -3,8 +3,8 @@ use Rattle.std.specs.Prelude.{◌≡◌, ◌≤◌, ℕ, Result, Ok, Err, ⊤}
 use Rattle.elf_load.specs.Image.{LoadedImage}
 use Rattle.bit_field.specs.declared.shapes.Shape.{Shape}
 use Rattle.run_log.specs.Run.{IsRecord, IsRunning, RecordedRun}
-use Rattle.run_log.specs.declared.record.RecordError.{RecordError}
-use Rattle.run_log.specs.declared.record.RecordError.TheVariants.{NoEnd, OutOfMemory}
+use Rattle.run_log.specs.declared.recording.RecordError.{RecordError}
+use Rattle.run_log.specs.declared.recording.RecordError.TheVariants.{NoEnd, OutOfMemory}
 
 -- a record that is the image's run
 pub record IsRunOf (image : LoadedImage) (shape : Shape) (budget : ℕ) (r : RecordedRun) : Type 0 where

@@ -73,13 +73,13 @@ IsRunning image shape t = (u : ℕ) → u < t → end_in (state_at image shape u
 pub record RecordedRun : Type 0 where
   pub image : LoadedImage
   pub shape : Shape
-  pub cycles : ℕ             -- the ending cycle included
-  pub instructions : ℕ       -- how many were retired
+  pub cycles : ℕ  -- the ending cycle included
+  pub instructions : ℕ  -- how many were retired
   pub output : List ℕ
   pub end : End
   pub events : List CacheEvent
-  pub issues : List ℕ        -- of each instruction the cycle in which it left EX
-  pub clocks : List ℕ        -- the cycles in which a read of the cycle counter left EX
+  pub issues : List ℕ  -- of each instruction the cycle in which it left EX
+  pub clocks : List ℕ  -- the cycles in which a read of the cycle counter left EX
 
 -- the record is that of the image's run: it ends in its last cycle and not before
 pub record IsRecord (r : RecordedRun) : Type 0 where

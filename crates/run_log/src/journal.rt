@@ -33,14 +33,22 @@ impl Journal {
     }
 
     /// Writes down what a cycle reports; `reads_clock` says whether ID/EX held a read of the cycle counter.
-    pub fn note(&mut self, report: &CycleReport, cycle: u32, reads_clock: bool) -> Result<(), AllocError>
+    pub fn note(
+        &mut self,
+        report: &CycleReport,
+        cycle: u32,
+        reads_clock: bool,
+    ) -> Result<(), AllocError>
         requires { self.old.retired < 2 ^ 31 }
         ensures { OnOk result (Adds report.now cycle reads_clock self.old self.new) }
     {
         keep(&mut self.output, report.put)?;
         keep(&mut self.events, report.event)?;
         keep(&mut self.issues, cycle_if(report.issued.is_some(), cycle))?;
-        keep(&mut self.clocks, cycle_if(report.issued.is_some() && reads_clock, cycle))?;
+        keep(
+            &mut self.clocks,
+            cycle_if(report.issued.is_some() && reads_clock, cycle),
+        )?;
         if report.retired {
             self.retired += 1;
         }

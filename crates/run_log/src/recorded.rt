@@ -27,15 +27,15 @@ impl<'i> Model for Recorded<'i> {
     ghost Value = { RecordedRun };
 
     ghost view = { λ x. record {
-        image = x.image.now;
-        shape = x.shape;
-        cycles = x.cycles;
-        instructions = x.instructions;
-        output = x.output.items;
-        end = x.end;
-        events = x.events.items;
-        issues = x.issues.items;
-        clocks = x.clocks.items;
+      image = x.image.now;
+      shape = x.shape;
+      cycles = x.cycles;
+      instructions = x.instructions;
+      output = x.output.items;
+      end = x.end;
+      events = x.events.items;
+      issues = x.issues.items;
+      clocks = x.clocks.items;
     } };
 }
 

@@ -6,8 +6,10 @@ ghost use Rattle.pipe_latch.specs.Latches as latches;
 ghost use Rattle.rv_table.specs.Actions as rv;
 ghost use Rattle.run_log.specs.Answers.{IsRecorded};
 ghost use Rattle.run_log.specs.Journals as journals;
-ghost use Rattle.run_log.specs.declared.record.RecordError.TheVariants.{OutOfMemory as no_memory};
+ghost use Rattle.run_log.specs.declared.recording.RecordError.TheVariants.{OutOfMemory as no_memory};
 
+use crate::journal::Journal;
+use crate::recorded::Recorded;
 use avf_base::{End, OutOfMemory, Steps};
 use bit_field::{Shape, plain_shape};
 use cyc_machine::Machine;
@@ -16,9 +18,6 @@ use pipe_latch::IdEx;
 use rv_table::{Op, is_clocked};
 use std::alloc::{AllocError, Global};
 use std::sync::ledger::Ledger;
-
-use crate::journal::Journal;
-use crate::recorded::Recorded;
 
 /// Why a run wasn't recorded.
 #[derive(Clone, Copy, Debug, PartialEq, Eq, thiserror::Error)]
@@ -106,10 +105,22 @@ fn reads_clock(decoded: &IdEx) -> bool
 }
 
 // The record of a run that ended.
-fn closed<'i>(image: &'i Image, shape: &Shape, cycles: u32, end: End, journal: Journal) -> Recorded<'i>
+fn closed<'i>(
+    image: &'i Image,
+    shape: &Shape,
+    cycles: u32,
+    end: End,
+    journal: Journal,
+) -> Recorded<'i>
     ensures { result ≡ journals.closed image.now shape.now cycles end journal }
 {
-    let Journal { output, events, issues, clocks, retired } = journal;
+    let Journal {
+        output,
+        events,
+        issues,
+        clocks,
+        retired,
+    } = journal;
     Recorded {
         image,
         shape: *shape,
