@@ -1,0 +1,9 @@
+pub mod Cycle
+pub mod Memory
+pub mod Parts
+pub mod Pipeline
+pub mod PortBits
+pub mod PortState
+pub mod RegisterBits
+pub mod State
+pub mod Strikes

@@ -1,0 +1,51 @@
+-- The machine's state: the sixteen structures that can be struck, main memory, the image, and the numbers that go with a
+-- run.
+use Rattle.std.specs.Prelude.{◌≡◌, ℕ, ◌/◌, ◌^◌, ◌<◌, ◌≤◌, Bool, false, List, length, replicate, All}
+use Rattle.elf_load.specs.Image.{LoadedImage, IsImage}
+use Rattle.bit_field.specs.declared.shapes.Shape.{Shape}
+use Rattle.pipe_latch.specs.Latches.{DecodedLatch, ExecutedLatch, ResultLatch, no_decoded, no_executed, no_result}
+use Rattle.inst_buf.specs.Entry.{Entry as Fetched, no_entry as no_fetched}
+use Rattle.predictor.specs.Tables.{Tables, fresh_tables}
+use Rattle.store_buf.specs.Entry.{Entry as Pending, no_entry as no_pending}
+use Rattle.wb_cache.specs.Contents.{Contents, empty as empty_cache}
+use Rattle.cyc_machine.specs.PortState.{PortState}
+
+pub record State : Type 0 where
+  pub image : LoadedImage
+  pub pc : ℕ  -- word address that is fetched next
+  pub npc : ℕ  -- word address of the instruction after the last one that left EX
+  pub tables : Tables  -- the predictor's
+  pub buffer : List Fetched  -- the four slots of the instruction buffer
+  pub d : DecodedLatch
+  pub m : ExecutedLatch
+  pub w : ResultLatch
+  pub registers : List ℕ  -- registers 1 to 31
+  pub stores : List Pending  -- the four slots of the store buffer
+  pub port : PortState
+  pub cache : Contents
+  pub memory : List ℕ  -- main memory, from the image's base on
+  pub cycle : ℕ  -- the number of this cycle
+  pub issued : ℕ  -- instructions that left EX
+  pub ended : Bool
+
+-- before the first cycle
+unfoldable pub reset : LoadedImage → Shape → State
+reset image shape =
+    record {
+      image = image;
+      pc = image.entry / 4;
+      npc = image.entry / 4;
+      tables = fresh_tables;
+      buffer = replicate 4 no_fetched;
+      d = no_decoded;
+      m = no_executed;
+      w = no_result;
+      registers = replicate 31 0;
+      stores = replicate 4 no_pending;
+      port = record { count = 0; owner = false };
+      cache = empty_cache shape;
+      memory = image.ram;
+      cycle = 0;
+      issued = 0;
+      ended = false;
+    }

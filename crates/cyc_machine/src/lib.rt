@@ -1,0 +1,28 @@
+// The five-stage machine: its state, one clock cycle, and strikes on any of its bits.
+//
+// `machine` has the state and the cycle; `memory_stage`, `execute` and `front_end` are the cycle's paragraphs
+// (clients, port, memory stage and store buffer; operands, execution and the predictor; decoding and fetching);
+// `registers` and `port` are the structures that belong to this crate alone; `report` is what a cycle shows.
+#![tactic(auto)]
+
+mod accessors;
+mod cached_memory;
+mod execute;
+mod fate;
+mod front_end;
+mod machine;
+mod memory_stage;
+mod parts;
+mod port;
+mod registers;
+mod report;
+mod strikes;
+
+pub use cached_memory::CachedMemory;
+pub use fate::Fate;
+pub use machine::Machine;
+pub use memory_stage::Served;
+pub use parts::Parts;
+pub use port::{Move, PortLatch};
+pub use registers::{ProgramCounter, RegisterFile};
+pub use report::CycleReport;

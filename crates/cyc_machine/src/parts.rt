@@ -1,0 +1,115 @@
+// The machine's parts, and one cycle of them.
+
+use crate::cached_memory::CachedMemory;
+use crate::execute::{Counts, fate_of, leave_execution, train};
+use crate::front_end::{decoded_after, pc_after, update_buffer};
+use crate::memory_stage::{
+    load_client, port_after, port_move, result_after, serve, store_client, update_stores,
+};
+use crate::port::PortLatch;
+use crate::registers::{ProgramCounter, RegisterFile};
+use crate::report::{CycleReport, event_of, report_of};
+use avf_base::Steps;
+use elf_load::Image;
+use inst_buf::InstBuf;
+use pipe_latch::{ExMem, IdEx, MemWb};
+use predictor::Predictor;
+use std::sync::ledger::Ledger;
+use store_buf::StoreBuf;
+
+/// The sixteen structures, main memory, and the numbers that go with a run.
+#[derive(Drop)]
+pub struct Parts<'i> {
+    pub image: &'i Image,
+    pub pc: ProgramCounter,
+    pub npc: ProgramCounter,
+    pub predictor: Predictor,
+    pub buffer: InstBuf,
+    pub decoded: IdEx,
+    pub executed: ExMem,
+    pub written: MemWb,
+    pub registers: RegisterFile,
+    pub stores: StoreBuf,
+    pub port: PortLatch,
+    pub storage: CachedMemory,
+    pub cycle: u32,
+    pub issued: u32,
+    pub ended: bool,
+}
+
+impl Parts<'_> {
+    ghost use Rattle.std.specs.Prelude.{◌≡◌, ◌+◌, ◌<◌, ◌^◌, length};
+    ghost use Rattle.cyc_machine.specs.Parts.{state_of};
+    ghost use Rattle.cyc_machine.specs.Cycle as cycles;
+
+    /// One clock cycle: every part takes its next value, which is worked out from the whole old state.
+    #[tactic(auto, unfolding(crate::specs::Cycle::cycled))]
+    pub fn step<L: Ledger>(&mut self, steps: &mut Steps<L>) -> CycleReport
+        requires size { length self.old.storage.memory.items ≡ length self.old.image.now.ram }
+        requires cycles { self.old.cycle < 2 ^ 31 }
+        ensures state { state_of self.new ≡ cycles.cycle (state_of self.old) }
+        ensures size { length self.new.storage.memory.items ≡ length self.new.image.now.ram }
+        ensures put { result.put ≡ cycles.put_in (state_of self.old) }
+        ensures issued { result.issued ≡ cycles.issued_from (cycles.fate (state_of self.old)) self.old.decoded }
+        ensures retired { result.retired ≡ cycles.retires (state_of self.old) }
+        ensures event { result.event ≡ cycles.event_in (state_of self.old) }
+        ensures end { result.end ≡ cycles.end_in (state_of self.old) }
+        ensures steps { steps.new ≡ steps.old + 1 }
+    {
+        steps.tick();
+        let image = self.image;
+        let fetch = self.pc.get();
+        let action = self.executed.action();
+        let load = load_client(image, &action, &self.stores);
+        let store = store_client(image, &self.stores);
+        let motion = port_move(&self.port, &self.storage.cache, load, store);
+        let event = event_of(&motion, &action, self.cycle, &self.storage.cache);
+        let word = self.storage.access(image, &motion);
+        let served = serve(image, &action, &self.stores, word);
+        let fate = fate_of(
+            &self.decoded,
+            self.npc.get(),
+            &self.executed,
+            &self.written,
+            served.goes,
+        );
+        let retired = self.executed.valid && served.goes;
+        let report = report_of(&action, &fate, &self.decoded, retired, event);
+        let predicted = self.predictor.next(fetch);
+        let next = pc_after(&fate, predicted, &self.buffer, self.npc.get(), fetch);
+        let now = Counts {
+            cycle: self.cycle,
+            issued: self.issued,
+        };
+        let issue = leave_execution(
+            image,
+            &fate,
+            served.goes,
+            &self.decoded,
+            now,
+            self.npc.get(),
+            &self.executed,
+        );
+        let decoded = decoded_after(
+            &fate,
+            &self.decoded,
+            &self.buffer,
+            &self.written,
+            &self.registers,
+        );
+        train(&mut self.predictor, issue.lesson, self.decoded.pc);
+        update_buffer(&mut self.buffer, &fate, image, fetch);
+        update_stores(&mut self.stores, image, &action, &motion);
+        self.registers.take(&self.written);
+        self.port = port_after(&motion, &self.port);
+        self.pc = ProgramCounter { word: next };
+        self.npc = ProgramCounter { word: issue.npc };
+        self.decoded = decoded;
+        self.executed = issue.executed;
+        self.written = result_after(&action, &served);
+        self.issued = issue.issued;
+        self.cycle += 1;
+        self.ended = report.end.is_some();
+        report
+    }
+}

@@ -1,0 +1,73 @@
+// What is written down cycle by cycle.
+ghost use Rattle.std.specs.Prelude.{◌≡◌, ◌+◌, ◌<◌, ◌^◌, OnOk, ⊤, if◌then◌else◌};
+ghost use Rattle.run_log.specs.Run.{with_one};
+ghost use Rattle.run_log.specs.Journals.{Adds, IsEmpty};
+ghost use Rattle.run_log.specs.Journals as journals;
+
+use cyc_machine::CycleReport;
+use std::alloc::{AllocError, Global};
+use wb_cache::CacheEvent;
+
+/// The lists of a run so far.
+#[derive(Drop)]
+pub struct Journal {
+    pub output: Vec<u8>,
+    pub events: Vec<CacheEvent>,
+    pub issues: Vec<u32>,
+    pub clocks: Vec<u32>,
+    pub retired: u32,
+}
+
+impl Journal {
+    /// Nothing was written down.
+    pub fn new(alloc: Global) -> Journal
+        ensures { IsEmpty result }
+    {
+        Journal {
+            output: Vec::new(alloc),
+            events: Vec::new(alloc),
+            issues: Vec::new(alloc),
+            clocks: Vec::new(alloc),
+            retired: 0,
+        }
+    }
+
+    /// Writes down what a cycle reports; `reads_clock` says whether ID/EX held a read of the cycle counter.
+    pub fn note(
+        &mut self,
+        report: &CycleReport,
+        cycle: u32,
+        reads_clock: bool,
+    ) -> Result<(), AllocError>
+        requires { self.old.retired < 2 ^ 31 }
+        ensures { OnOk result (Adds report.now cycle reads_clock self.old self.new) }
+    {
+        keep(&mut self.output, report.put)?;
+        keep(&mut self.events, report.event)?;
+        keep(&mut self.issues, cycle_if(report.issued.is_some(), cycle))?;
+        keep(
+            &mut self.clocks,
+            cycle_if(report.issued.is_some() && reads_clock, cycle),
+        )?;
+        if report.retired {
+            self.retired += 1;
+        }
+        Ok(())
+    }
+}
+
+fn keep<T: Drop>(list: &mut Vec<T>, item: Option<T>) -> Result<(), AllocError>
+    ensures { OnOk result (list.new.items ≡ with_one list.old.items item) }
+{
+    if let Some(item) = item {
+        list.push(item)?;
+    }
+    Ok(())
+}
+
+// The number of the cycle, where it does something.
+fn cycle_if(does: bool, cycle: u32) -> Option<u32>
+    ensures { result ≡ journals.noted_if does cycle }
+{
+    if does { Some(cycle) } else { None }
+}

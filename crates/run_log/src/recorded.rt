@@ -1,0 +1,108 @@
+// What is recorded of a run.
+
+use avf_base::End;
+use bit_field::Shape;
+use elf_load::Image;
+use std::marker::Model;
+use wb_cache::CacheEvent;
+
+/// The recorded run of an image: how many cycles and instructions it took, what it put, how it ended, and what happened on
+/// the way. No list of states is kept.
+#[derive(Drop)]
+pub struct Recorded<'i> {
+    pub(crate) image: &'i Image,
+    pub(crate) shape: Shape,
+    pub(crate) cycles: u32,
+    pub(crate) instructions: u32,
+    pub(crate) output: Vec<u8>,
+    pub(crate) end: End,
+    pub(crate) events: Vec<CacheEvent>,
+    pub(crate) issues: Vec<u32>,
+    pub(crate) clocks: Vec<u32>,
+}
+
+impl<'i> Model for Recorded<'i> {
+    ghost use Rattle.run_log.specs.Run.{RecordedRun};
+
+    ghost Value = { RecordedRun };
+
+    ghost view = { λ x. record {
+      image = x.image.now;
+      shape = x.shape;
+      cycles = x.cycles;
+      instructions = x.instructions;
+      output = x.output.items;
+      end = x.end;
+      events = x.events.items;
+      issues = x.issues.items;
+      clocks = x.clocks.items;
+    } };
+}
+
+impl<'i> Recorded<'i> {
+    ghost use Rattle.std.specs.Prelude.{◌≡◌, ◌<◌, length, slice_index};
+
+    /// The image that ran.
+    pub fn image(&self) -> &'i Image
+        ensures { result.now ≡ self.now.image }
+    {
+        self.image
+    }
+
+    /// The shape of RAM and cache.
+    pub fn shape(&self) -> Shape
+        ensures { result ≡ self.now.shape }
+    {
+        self.shape
+    }
+
+    /// The number of cycles, the ending one included.
+    pub fn cycles(&self) -> u32
+        ensures { result ≡ self.now.cycles }
+    {
+        self.cycles
+    }
+
+    /// The number of instructions that were retired, the ending one included.
+    pub fn instructions(&self) -> u32
+        ensures { result ≡ self.now.instructions }
+    {
+        self.instructions
+    }
+
+    /// The bytes that the program put.
+    pub fn output(&self) -> &[u8]
+        ensures { result.now ≡ self.now.output }
+    {
+        &self.output
+    }
+
+    /// How the run ended.
+    pub fn end(&self) -> End
+        ensures { result ≡ self.now.end }
+    {
+        self.end
+    }
+
+    /// The events of the cache, in order of cycles.
+    pub fn events(&self) -> &[CacheEvent]
+        ensures { result.now ≡ self.now.events }
+    {
+        &self.events
+    }
+
+    /// The cycle in which instruction `i` left EX.
+    pub fn issued_at(&self, i: u32) -> u32
+        requires { i < length self.now.issues }
+        ensures { result ≡ slice_index self.now.issues i }
+    {
+        self.issues[i as usize]
+    }
+
+    /// The cycles in which a read of the cycle counter left EX, in order.
+    pub fn clocks(&self) -> &[u32]
+        ensures { result.now ≡ self.now.clocks }
+    {
+        &self.clocks
+    }
+}
