@@ -26,3 +26,6 @@ pub use parts::Parts;
 pub use port::{Move, PortLatch};
 pub use registers::{ProgramCounter, RegisterFile};
 pub use report::CycleReport;
+
+#[cfg(test)]
+mod tests;
