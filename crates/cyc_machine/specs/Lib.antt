@@ -1,4 +1,5 @@
 pub mod Cycle
+pub mod Facts
 pub mod Memory
 pub mod Parts
 pub mod Pipeline

@@ -8,6 +8,7 @@
 mod accessors;
 mod cached_memory;
 mod execute;
+mod facts;
 mod fate;
 mod front_end;
 mod machine;
