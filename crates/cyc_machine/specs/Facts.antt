@@ -5,6 +5,7 @@ use Rattle.inst_buf.specs.BufferBits as ib
 use Rattle.pipe_latch.specs.DecodedBits as idex
 use Rattle.pipe_latch.specs.ExecutedBits as exmem
 use Rattle.pipe_latch.specs.ResultBits as memwb
+use Rattle.predictor.specs.Places as tables
 use Rattle.store_buf.specs.Bits as sb
 use Rattle.wb_cache.specs.Contents.{IsContents}
 use Rattle.cyc_machine.specs.PortBits as port
@@ -16,6 +17,9 @@ pub record IsMachine (s : State) : Type 0 where
   pub image : IsImage s.image
   pub memory : length s.memory ≡ length s.image.ram
   pub cache : IsContents s.cache
+  pub pc : registers.IsCounterFit s.pc
+  pub npc : registers.IsCounterFit s.npc
+  pub tables : tables.IsFit s.tables
   pub buffer : ib.IsFit s.buffer
   pub d : idex.IsFit s.d
   pub m : exmem.IsFit s.m

@@ -1,5 +1,7 @@
 // What holds of every machine.
 
+ghost use Rattle.cyc_machine.specs.FlipLaw.{FlipsBack, FlipsNoOther, FlipsThatBit};
+
 use crate::machine::Machine;
 use bit_field::Struck;
 
@@ -13,6 +15,9 @@ impl Machine<'_> {
     {
         self.parts.image.is_image();
         self.parts.storage.cache.is_cache();
+        self.parts.pc.fits();
+        self.parts.npc.fits();
+        self.parts.predictor.fits();
         self.parts.buffer.fits();
         self.parts.decoded.fits();
         self.parts.executed.fits();
@@ -22,3 +27,11 @@ impl Machine<'_> {
         self.parts.port.fits();
     }
 }
+
+/// Changes nothing; its contract is the law of strikes: a flip at a place changes that bit, and no other bit of any of the
+/// sixteen structures, and a second flip restores the state.
+pub fn flip_law()
+    ensures flips { FlipsThatBit }
+    ensures others { FlipsNoOther }
+    ensures restores { FlipsBack }
+{}

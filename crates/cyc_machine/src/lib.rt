@@ -20,6 +20,7 @@ mod report;
 mod strikes;
 
 pub use cached_memory::CachedMemory;
+pub use facts::flip_law;
 pub use fate::Fate;
 pub use machine::Machine;
 pub use memory_stage::Served;
