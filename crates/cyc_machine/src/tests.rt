@@ -123,7 +123,12 @@ fn flip(rt: &impl Abort, machine: &mut Machine<'_>, place: &Place) {
 
 // Two flips restore the bit, and the place behind the last is out of range.
 fn check_place(rt: &impl Abort, machine: &mut Machine<'_>, structure: Structure, bits: u32) {
-    assert!(rt; !machine.in_range(&Place { structure, bit: bits }));
+    assert!(rt;
+        !machine.in_range(&Place {
+            structure,
+            bit: bits
+        })
+    );
     for bit in [0, bits.saturating_sub(1)] {
         let place = Place { structure, bit };
         let before = bit_of(rt, machine, &place);
