@@ -1,2 +1,7 @@
+pub mod Arrays
 pub mod Bits
+pub mod CacheShape
+pub mod Flags
+pub mod Highest
 pub mod Low
+pub mod Rows
