@@ -1,0 +1,8 @@
+// Which bits of registers and memory a run needs.
+#![tactic(auto)]
+
+mod byte_histories;
+mod history;
+
+pub use byte_histories::{byte_at, set_byte};
+pub use history::{Change, History};
