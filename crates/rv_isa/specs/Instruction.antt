@@ -18,11 +18,11 @@ pub record Log : Type 0 where
 
 -- A state of the instruction set's run over an image, with what it has done, and its end if that has come.
 pub record State : Type 0 where
-  pub registers : ℕ → ℕ       -- by register, 1 to 31
-  pub memory : ℕ → ℕ          -- by byte address
-  pub pc : ℕ                  -- word address of the next instruction
-  pub count : ℕ               -- instructions so far
-  pub clocks : List ℕ         -- clock values that are left
+  pub registers : ℕ → ℕ  -- by register, 1 to 31
+  pub memory : ℕ → ℕ  -- by byte address
+  pub pc : ℕ  -- word address of the next instruction
+  pub count : ℕ  -- instructions so far, modulo 2^32
+  pub clocks : List ℕ  -- clock values that are left
   pub log : Log
   pub stop : Option End
 
@@ -85,6 +85,10 @@ abbrev pub later_clocks : List ℕ → List ℕ
 later_clocks [] = []
 later_clocks (clock ∷ clocks) = clocks
 
+-- the count after one more instruction; it is a 32-bit counter and wraps
+abbrev pub next_count : ℕ → ℕ
+next_count count = (count + 1) % 2 ^ 32
+
 -- what an operation of an image's program asks for and is allowed
 abbrev pub action_in : LoadedImage → Op → ℕ → ℕ → ℕ → Action
 action_in image op pc a b = action (word_in_ram image) (executable image) op pc a b
@@ -95,7 +99,7 @@ completed image op pc a b before =
     let c = with_counter op (first_clock before.clocks) before.count b in
     record (performed image (action_in image op pc a c) before) {
       pc = next_address op pc a c;
-      count = before.count + 1;
+      count = next_count before.count;
       clocks = if is_clocked op then later_clocks before.clocks else before.clocks;
     }
 

@@ -1,2 +1,4 @@
+pub mod Architecture
+pub mod Effects
 pub mod Instruction
 pub mod Runs

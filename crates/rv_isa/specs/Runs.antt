@@ -1,8 +1,12 @@
 -- The architectural run of an image: its states, and what is recorded of it.
-use Rattle.std.specs.Prelude.{◌≡◌, ℕ, ◌+◌, ◌-◌, ◌*◌, ◌/◌, ◌<◌, ◌≤◌, ◌==◌, Bool, true, false, is_none, List, [], ◌∷◌, length, Option, Some, None, zero, suc, if◌then◌else◌, slice_get, slice_index_or}
+use Rattle.std.specs.Prelude.{◌≡◌, ℕ, ◌+◌, ◌-◌, ◌*◌, ◌/◌, ◌<◌, ◌≤◌, ◌==◌, Bool, true, false, is_none, List, [], ◌∷◌, length, Option, Some, None, Result, Ok, Err, zero, suc, if◌then◌else◌, slice_get, slice_index_or}
 use Rattle.elf_load.specs.Image.{LoadedImage, in_ram}
 use Rattle.avf_base.specs.declared.end.End.{End}
+use Rattle.rv_isa.specs.Effects.{retired_at}
 use Rattle.rv_isa.specs.Instruction.{State, instruction}
+use Rattle.rv_isa.specs.declared.effect.Retired.{Retired}
+use Rattle.rv_isa.specs.declared.error.IsaError.{IsaError}
+use Rattle.rv_isa.specs.declared.error.IsaError.TheVariants.{NoEnd, OutOfMemory}
 
 -- byte p of RAM as loaded, 0 outside RAM
 abbrev pub loaded_byte : LoadedImage → ℕ → ℕ
@@ -25,3 +29,22 @@ reset image clocks =
 unfoldable pub after : LoadedImage → ℕ → State → State
 after image zero at = at
 after image (suc n) at = if is_none at.stop then after image n (instruction image at) else at
+
+-- a run that has ended: what each instruction was, the bytes that it put, and its end
+pub record EndedRun : Type 0 where
+  pub entries : List Retired
+  pub output : List ℕ
+  pub end : End
+
+-- The trace of an image with these clock values. Its length is the number of instructions, the ending one included.
+pub record IsTrace (image : LoadedImage) (clocks : List ℕ) (run : EndedRun) : Type 0 where
+  pub retired : (i : ℕ) → i < length run.entries → slice_get run.entries i ≡ Some (retired_at image (after image i (reset image clocks)))
+  pub running : (i : ℕ) → i < length run.entries → (after image i (reset image clocks)).stop ≡ None
+  pub ends : (after image (length run.entries) (reset image clocks)).stop ≡ Some run.end
+  pub puts : (after image (length run.entries) (reset image clocks)).log.output ≡ run.output
+
+-- What a run of at most `limit` instructions answers: its trace, or that they didn't end it. Want of memory may come at any time.
+abbrev pub IsAnswer : LoadedImage → List ℕ → ℕ → Result EndedRun IsaError → Type 0
+IsAnswer image clocks limit (Ok run) = (length run.entries ≤ limit) × IsTrace image clocks run
+IsAnswer image clocks limit (Err NoEnd) = (after image limit (reset image clocks)).stop ≡ None
+IsAnswer image clocks limit (Err OutOfMemory) = Unit {0}

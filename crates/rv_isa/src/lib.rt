@@ -1,2 +1,12 @@
-// The instruction set's run: the state, one instruction, and the trace of an image.
+// The instruction set's run: the architectural state, one instruction, and the trace of an image.
 #![tactic(auto)]
+
+pub mod arch;
+pub mod effect;
+pub mod error;
+pub mod trace;
+
+pub use arch::Arch;
+pub use effect::{Effect, Retired};
+pub use error::IsaError;
+pub use trace::Trace;

@@ -1,6 +1,6 @@
 -- What an instruction asks for and where it goes on, from its operands. `pc` is its word address, a and b are the
 -- values of rs1 and rs2 (for a counter read, b is the counter); a target is a byte address.
-use Rattle.std.specs.Prelude.{ℕ, ◌+◌, ◌*◌, ◌/◌, ◌%◌, ◌^◌, ◌==◌, Bool, true, false, not, ◌&&◌, ◌||◌, nat_lt, nat_le, if◌then◌else◌}
+use Rattle.std.specs.Prelude.{ℕ, ◌+◌, ◌*◌, ◌/◌, ◌%◌, ◌^◌, ◌==◌, Bool, true, false, not, ◌&&◌, ◌||◌, nat_lt, nat_le, if◌then◌else◌, Option, Some, None}
 use Rattle.rv_table.specs.Operations.{operation_of}
 use Rattle.rv_table.specs.Arithmetic.{alu, sum32, signed_order}
 use Rattle.rv_table.specs.Accesses.{load_size, store_size}
@@ -9,10 +9,12 @@ use Rattle.rv_table.specs.declared.operation.Operation.{Operation}
 use Rattle.rv_table.specs.declared.operation.Operation.TheVariants.{Illegal, FetchFault, Lui, Auipc, Jal, Jalr, Branch, Load, Store, AluImmediate, Alu, Fence, Ecall, Ebreak, ReadCounter}
 use Rattle.rv_table.specs.declared.operation.BranchKind.{BranchKind}
 use Rattle.rv_table.specs.declared.operation.BranchKind.TheVariants.{Beq, Bne, Blt, Bge, Bltu, Bgeu}
-use Rattle.rv_table.specs.declared.operation.CounterKind.{CounterKind}
+use Rattle.rv_table.specs.declared.operation.LoadKind.{LoadKind}
+use Rattle.rv_table.specs.declared.operation.StoreKind.{StoreKind}
 use Rattle.rv_table.specs.declared.operation.CounterKind.TheVariants.{Cycle, Instret, Cycleh, Instreth}
+use Rattle.rv_table.specs.declared.action.Access.{Access}
 use Rattle.rv_table.specs.declared.action.Action.{Action}
-use Rattle.rv_table.specs.declared.action.Action.TheVariants.{Nothing, Writes, Loads, Stores, Puts, Exits, Traps}
+use Rattle.rv_table.specs.declared.action.Action.TheVariants.{Writes, Loads, Stores, Puts, Exits, Traps}
 
 -- whether a branch's comparison holds
 unfoldable pub holds : BranchKind → ℕ → ℕ → Bool
@@ -74,6 +76,13 @@ misses_target o op pc a b = taken_by o a b && not (is_aligned 4 (target_by o op 
 abbrev pub called : ℕ → ℕ → Action
 called a b = if a == 1 then Puts b else (if a == 93 then Exits b else Traps 8)
 
+-- a load or a store at byte address x traps with 4 where x is no multiple of its size
+abbrev pub load_asked : LoadKind → ℕ → ℕ → Action
+load_asked kind rd x = if is_aligned (load_size kind) x then Loads kind rd x else Traps 4
+
+abbrev pub store_asked : StoreKind → ℕ → ℕ → Action
+store_asked kind x y = if is_aligned (store_size kind) x then Stores kind x y else Traps 4
+
 -- what is asked for, before memory judges an access
 unfoldable pub asked_by : Operation → Op → ℕ → ℕ → ℕ → Action
 asked_by Illegal op pc a b = Traps 3
@@ -81,10 +90,8 @@ asked_by FetchFault op pc a b = Traps 1
 asked_by Jal op pc a b = if misses_target Jal op pc a b then Traps 2 else Writes op.rd (value_by Jal op (4 * pc) a b)
 asked_by Jalr op pc a b = if misses_target Jalr op pc a b then Traps 2 else Writes op.rd (value_by Jalr op (4 * pc) a b)
 asked_by (Branch kind) op pc a b = if misses_target (Branch kind) op pc a b then Traps 2 else Writes 0 0
-asked_by (Load kind) op pc a b =
-    if is_aligned (load_size kind) (sum32 a op.imm) then Loads kind op.rd (sum32 a op.imm) else Traps 4
-asked_by (Store kind) op pc a b =
-    if is_aligned (store_size kind) (sum32 a op.imm) then Stores kind (sum32 a op.imm) b else Traps 4
+asked_by (Load kind) op pc a b = load_asked kind op.rd (sum32 a op.imm)
+asked_by (Store kind) op pc a b = store_asked kind (sum32 a op.imm) b
 asked_by Fence op pc a b = Writes 0 0
 asked_by Ecall op pc a b = called a b
 asked_by Ebreak op pc a b = Traps 7
@@ -111,6 +118,18 @@ judged ram executable (Loads kind rd x) = if ram (x / 4) then Loads kind rd x el
 judged ram executable (Stores kind x y) =
     if ram (x / 4) && not (some_executable executable x (store_size kind)) then Stores kind x y else Traps 6
 judged ram executable action = action
+
+-- the access that an action asks for: where, how many bytes, and whether it writes
+unfoldable pub access_of : Action → Option Access
+access_of (Loads kind rd x) = Some (record { place = x; size = load_size kind; writes = false })
+access_of (Stores kind x y) = Some (record { place = x; size = store_size kind; writes = true })
+access_of action = None
+
+-- what memory makes of an action, told of its own place whether its word is in RAM and one of its bytes executable
+unfoldable pub judged_by : Bool → Bool → Action → Action
+judged_by in_ram executable (Loads kind rd x) = if in_ram then Loads kind rd x else Traps 5
+judged_by in_ram executable (Stores kind x y) = if in_ram && not executable then Stores kind x y else Traps 6
+judged_by in_ram executable action = action
 
 unfoldable pub action : (ℕ → Bool) → (ℕ → Bool) → Op → ℕ → ℕ → ℕ → Action
 action ram executable op pc a b = judged ram executable (asked op pc a b)

@@ -1,7 +1,7 @@
 -- What an action does to registers and output.
 use Rattle.std.specs.Prelude.{ℕ, ◌%◌, ◌^◌, Option, Some, None, Bool, true, false}
 use Rattle.rv_table.specs.declared.action.Action.{Action}
-use Rattle.rv_table.specs.declared.action.Action.TheVariants.{Nothing, Writes, Loads, Stores, Puts, Exits, Traps}
+use Rattle.rv_table.specs.declared.action.Action.TheVariants.{Writes, Loads, Puts}
 
 -- the register that it writes, or 0
 abbrev pub written_register : Action → ℕ

@@ -1,0 +1,31 @@
+-- RAM as a function of byte addresses, and stores into it.
+use Rattle.std.proofs.Common.{◌≡◌, ℕ, ◌+◌, ◌-◌, ◌/◌, ◌<◌, ◌≤◌, ◌==◌, ◌&&◌, Bool, true, false, List, length, replicate, refl, sym, ◌∙◌, ap, arith, if◌then◌else◌}
+use Rattle.std.specs.Prelude.{slice_index, nat_le, nat_lt, Some, IsTrue, ◌⊎◌}
+use Rattle.std.proofs.Common.{inl, inr}
+use Rattle.std.proofs.Math.Path.{fun_ext}
+use Rattle.std.proofs.lemmas.Bool.Decides.{nat_tests}
+use Rattle.elf_load.specs.Image.{LoadedImage, in_ram}
+use Rattle.rv_isa.proofs.Lists.{all_zero}
+use Rattle.rv_isa.specs.Architecture.{byte_stored, ram_byte, state_of}
+use Rattle.rv_isa.specs.Effects.{IsInRam, with_store}
+use Rattle.rv_isa.specs.Runs.{reset}
+
+-- 1, 2 or 4 bytes in RAM stand in its list
+pub place_in_ram : (image : LoadedImage) (place size : ℕ) → IsInRam image place size → (image.base ≤ place) × (place + size ≤ image.base + length image.ram) × (size ≤ 4)
+unfolding in_ram
+place_in_ram image place size within =
+    let first : IsTrue (in_ram image (place + 0)) = within.bytes 0 (grind (arith, within.whole)) in
+    let last : IsTrue (in_ram image (place + (size - 1))) = within.bytes (size - 1) (grind (arith, within.whole)) in
+    grind (arith, nat_tests, within.whole, first, last)
+
+-- a value stored at such a place
+pub stored_ram : (image : LoadedImage) (bytes old : List ℕ) (base place size value : ℕ) → base ≡ image.base → IsInRam image place size → ((p : ℕ) → slice_index bytes p ≡ byte_stored (place - base) size value old p) → ram_byte image bytes ≡ with_store (Some (place, size, value)) (ram_byte image old)
+unfolding in_ram
+stored_ram image bytes old base place size value e within stored =
+    let at = place_in_ram image place size within in
+    fun_ext (λ p. grind (arith, nat_tests, at, stored (p - image.base)))
+
+-- the state at reset
+pub at_reset : (image : LoadedImage) (registers memory clocks left : List ℕ) (entry : ℕ) → registers ≡ replicate 32 0 → memory ≡ image.ram → entry ≡ image.entry → left ≡ clocks → state_of (record { image = image; registers = registers; memory = memory; pc = entry / 4; count = 0; clocks = left }) ≡ reset image clocks
+unfolding reset
+at_reset image registers memory clocks left entry r m p c = rw (r, m, p, c, all_zero 32) refl
