@@ -1,1 +1,4 @@
+mod ByteBits
 mod Histories
+mod Immediates
+mod MaskBits

@@ -1,4 +1,7 @@
 pub mod Histories
-pub mod Places
 pub mod Links
+pub mod Masks
 pub mod Needed
+pub mod Places
+pub mod Steps
+pub mod Tables

@@ -3,6 +3,8 @@
 
 mod byte_histories;
 mod history;
+mod masks;
+mod register_histories;
 
 pub use byte_histories::{byte_at, set_byte};
 pub use history::{Change, History};
