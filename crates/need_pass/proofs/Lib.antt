@@ -2,3 +2,6 @@ mod ByteBits
 mod Histories
 mod Immediates
 mod MaskBits
+mod Passes
+mod StepBack
+mod StepLinks

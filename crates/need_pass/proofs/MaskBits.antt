@@ -6,7 +6,7 @@ use lib.Count.{count_leading_zeros}
 use Rattle.std.specs.Int.Count.{leading_of_zero}
 use Rattle.std.proofs.Math.Nat.{div-le_self}
 use Rattle.std.proofs.lemmas.Bool.{cases_lt, cases_eq}
-use Rattle.std.proofs.lemmas.Nat.Bits.{bit_at-lt, bit_at-zero, bit_at_and, bit_at_or, bit_at_not, bit_at_ones, bit_at_ones_above, bit_at_above, bit_at-pow_same, bit_at-pow_other}
+use Rattle.std.proofs.lemmas.Nat.Bits.{bit_at-lt, bit_at-zero, bit_at_and, bit_at_or, bit_at_not, bit_at_ones, bit_at_ones_above, bit_at_above, bit_at-pow_same, bit_at-pow_other, bit_at_mask_inside, bit_at_mask_below}
 use Rattle.bit_field.proofs.Highest.{highest, IsHighest, nonzero_bit, bit_nonzero, bit_at-below_highest}
 use Rattle.bit_field.proofs.Low.{bit_at-mod, bit_at-shr, bit_at-shl_low, bit_at-shl_high}
 use Rattle.need_pass.specs.Masks.{IsMaskOf, HasOne}
@@ -133,3 +133,15 @@ mask_no_sign_bit m s z k l =
         let e : s + 1 + (j - (s + 1)) ≡ j = omega arith in
         let f : bit_at (m / 2 ^ (s + 1)) (j - (s + 1)) ≡ 1 = bit_at-shr m (s + 1) (j - (s + 1)) ∙ rw e o in
         absurd (omega (arith, rw z at f, bit_at-zero (j - (s + 1)))))
+
+pub mask_low_where : (n : ℕ) (P : Type 0) → P → IsMaskOf (2 ^ n - 1) (λ k. (k < n) × P)
+mask_low_where n P p k l = (λ one. ((mask_low n k l).0 one, p), λ (b, q). (mask_low n k l).1 b)
+
+-- all bits, and all but the lowest
+pub mask_odd : (P : Type 0) → P → IsMaskOf (2 ^ 32 - 1) (λ k. (0 < k) ⊎ P)
+mask_odd P p k l = (λ one. inr p, λ s. bit_at_ones 32 k l)
+
+pub mask_even : (P : Type 0) → (P → ⊥) → IsMaskOf (2 ^ 32 - 2 ^ 1) (λ k. (0 < k) ⊎ P)
+mask_even P never k l =
+    (λ one. elim (cases_lt 0 k) [ inl b ↦ inl b | inr b ↦ absurd (omega (arith, bit_at_mask_below 1 32 k (omega arith))) ],
+     λ s. elim s [ inl b ↦ bit_at_mask_inside 1 32 k (omega arith) l | inr p ↦ absurd (never p) ])

@@ -4,7 +4,9 @@
 mod byte_histories;
 mod history;
 mod masks;
+mod operands;
+mod pass;
 mod register_histories;
+mod table;
 
-pub use byte_histories::{byte_at, set_byte};
-pub use history::{Change, History};
+pub use table::{NeedTable, needs};
