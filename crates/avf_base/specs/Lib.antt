@@ -1,1 +1,7 @@
+pub mod Causes
+pub mod Entries
+pub mod Files
+pub mod Fronts
+pub mod Moves
 pub mod Refusals
+pub mod States

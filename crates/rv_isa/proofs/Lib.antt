@@ -1,2 +1,7 @@
+pub mod Allowed
+pub mod Follows
 pub mod Lists
 pub mod Memory
+pub mod RunSteps
+pub mod Steps
+pub mod Stores

@@ -1,14 +1,19 @@
 -- RAM as a function of byte addresses, and stores into it.
-use Rattle.std.proofs.Common.{◌≡◌, ℕ, ◌+◌, ◌-◌, ◌/◌, ◌<◌, ◌≤◌, ◌==◌, ◌&&◌, Bool, true, false, List, length, replicate, refl, sym, ◌∙◌, ap, arith, if◌then◌else◌}
+use Rattle.std.proofs.Common.{◌≡◌, ℕ, ◌+◌, ◌-◌, ◌*◌, ◌/◌, ◌%◌, ◌<◌, ◌≤◌, ◌==◌, ◌&&◌, Bool, true, false, List, length, replicate, refl, sym, ◌∙◌, ap, arith, if◌then◌else◌}
 use Rattle.std.specs.Prelude.{slice_index, nat_le, nat_lt, Some, IsTrue, ◌⊎◌}
 use Rattle.std.proofs.Common.{inl, inr}
 use Rattle.std.proofs.Math.Path.{fun_ext}
 use Rattle.std.proofs.lemmas.Bool.Decides.{nat_tests}
-use Rattle.elf_load.specs.Image.{LoadedImage, in_ram}
+use Rattle.elf_load.specs.Image.{LoadedImage, in_ram, word_in_ram}
 use Rattle.rv_isa.proofs.Lists.{all_zero}
 use Rattle.rv_isa.specs.Architecture.{byte_stored, ram_byte, state_of}
 use Rattle.rv_isa.specs.Effects.{IsInRam, with_store}
 use Rattle.rv_isa.specs.Runs.{reset}
+use Rattle.rv_table.specs.Accesses.{byte_of, loaded, word_at, word_of_bytes}
+use Rattle.rv_table.proofs.Loads.{loaded-word}
+use Rattle.rv_table.specs.declared.action.Action.TheVariants.{Loads}
+use Rattle.rv_table.specs.declared.operation.LoadKind.{LoadKind}
+use Rattle.rv_isa.specs.Instruction.{given}
 
 -- 1, 2 or 4 bytes in RAM stand in its list
 pub place_in_ram : (image : LoadedImage) (place size : ℕ) → IsInRam image place size → (image.base ≤ place) × (place + size ≤ image.base + length image.ram) × (size ≤ 4)
@@ -29,3 +34,18 @@ stored_ram image bytes old base place size value e within stored =
 pub at_reset : (image : LoadedImage) (registers memory clocks left : List ℕ) (entry : ℕ) → registers ≡ replicate 32 0 → memory ≡ image.ram → entry ≡ image.entry → left ≡ clocks → state_of (record { image = image; registers = registers; memory = memory; pc = entry / 4; count = 0; clocks = left }) ≡ reset image clocks
 unfolding reset
 at_reset image registers memory clocks left entry r m p c = rw (r, m, p, c, all_zero 32) refl
+
+-- the word of RAM at a byte address
+pub word_there : (image : LoadedImage) (bytes : List ℕ) (place at : ℕ) → word_in_ram image (place / 4) ≡ true → at ≡ place / 4 * 4 - image.base → word_of_bytes (λ i. slice_index bytes (at + i)) ≡ word_at place (ram_byte image bytes)
+unfolding word_in_ram in_ram
+word_there image bytes place at h e = grind (arith, nat_tests)
+
+pub word_fits : (image : LoadedImage) (memory : List ℕ) (place : ℕ) → word_in_ram image (place / 4) ≡ true → length memory ≡ length image.ram → (image.base ≤ place / 4 * 4) × (place / 4 * 4 + 4 ≤ image.base + length memory)
+unfolding word_in_ram in_ram
+word_fits image memory place h e = grind (arith, nat_tests)
+
+pub ruleset words = (word_there, word_fits)
+
+-- a load of that word
+pub given_load : (image : LoadedImage) (kind : LoadKind) (rd place word : ℕ) (memory : ℕ → ℕ) → word_in_ram image (place / 4) ≡ true → word ≡ word_at place memory → ((p : ℕ) → memory p < 256) → loaded kind place (λ p. byte_of word (p % 4)) ≡ given image (Loads kind rd place) memory
+given_load image kind rd place word memory h e bytes = rw (e, h) (sym (loaded-word kind place memory bytes))

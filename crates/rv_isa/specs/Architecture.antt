@@ -40,4 +40,5 @@ pub record IsArchState (arch : ArchState) : Type 0 where
   pub register_count : length arch.registers ≡ 32
   pub register_zero : slice_index arch.registers 0 ≡ 0
   pub memory_size : length arch.memory ≡ length arch.image.ram
+  pub memory_bytes : (k : ℕ) → slice_index arch.memory k < 256
   pub pc : arch.pc < 2 ^ 30

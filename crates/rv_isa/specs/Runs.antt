@@ -1,6 +1,6 @@
 -- The architectural run of an image: its states, and what is recorded of it.
 use Rattle.std.specs.Prelude.{◌≡◌, ℕ, ◌+◌, ◌-◌, ◌*◌, ◌/◌, ◌<◌, ◌≤◌, ◌==◌, Bool, true, false, is_none, List, [], ◌∷◌, length, Option, Some, None, Result, Ok, Err, zero, suc, if◌then◌else◌, slice_get, slice_index_or}
-use Rattle.elf_load.specs.Image.{LoadedImage, in_ram}
+use Rattle.elf_load.specs.Image.{LoadedImage, IsImage, in_ram}
 use Rattle.avf_base.specs.declared.end.End.{End}
 use Rattle.rv_isa.specs.Effects.{retired_at}
 use Rattle.rv_isa.specs.Instruction.{State, instruction}
@@ -42,6 +42,13 @@ pub record IsTrace (image : LoadedImage) (clocks : List ℕ) (run : EndedRun) : 
   pub running : (i : ℕ) → i < length run.entries → (after image i (reset image clocks)).stop ≡ None
   pub ends : (after image (length run.entries) (reset image clocks)).stop ≡ Some run.end
   pub puts : (after image (length run.entries) (reset image clocks)).log.output ≡ run.output
+
+-- the trace of some image with some clock values
+pub record ComesFromImage (run : EndedRun) : Type 0 where
+  pub image : LoadedImage
+  pub clocks : List ℕ
+  pub loaded : IsImage image
+  pub traced : IsTrace image clocks run
 
 -- What a run of at most `limit` instructions answers: its trace, or that they didn't end it. Want of memory may come at any time.
 abbrev pub IsAnswer : LoadedImage → List ℕ → ℕ → Result EndedRun IsaError → Type 0

@@ -1,7 +1,12 @@
 // What one instruction does, told from outside.
 
+ghost use Rattle.std.specs.Prelude.{◌≡◌};
+ghost use Rattle.rv_isa.specs.Effects as spec;
+ghost use Rattle.rv_isa.specs.Instruction as instruction;
+ghost use Rattle.rv_table.specs.Effects as table;
+
 use avf_base::End;
-use rv_table::Op;
+use rv_table::{Action, Op};
 
 /// What one instruction does. Addresses are byte addresses.
 #[derive(Clone, Copy, Debug, PartialEq, Eq)]
@@ -33,4 +38,55 @@ pub struct Retired {
     /// The value of register rs2. It is 0 for the counter reads, which have no rs2.
     pub b: u32,
     pub effect: Effect,
+}
+
+/// The register that an action writes, or 0.
+pub(crate) fn written_register(action: &Action) -> u8
+    ensures { result ≡ table.written_register action.now }
+{
+    match *action {
+        Action::Writes { rd, .. } | Action::Loads { rd, .. } => rd,
+        _ => 0,
+    }
+}
+
+/// The byte address and the length of an action's load.
+pub(crate) fn load_of(action: &Action) -> Option<(u32, u8)>
+    ensures { result ≡ spec.load_of action.now }
+{
+    match *action {
+        Action::Loads { kind, place, .. } => Some((place, kind.size() as u8)),
+        _ => None,
+    }
+}
+
+/// The byte address, the length and the value of an action's store.
+pub(crate) fn store_of(action: &Action) -> Option<(u32, u8, u32)>
+    ensures { result ≡ spec.store_of action.now }
+{
+    match *action {
+        Action::Stores { kind, place, value } => Some((place, kind.size() as u8, value)),
+        _ => None,
+    }
+}
+
+/// The byte that an action puts.
+pub(crate) fn byte_put(action: &Action) -> Option<u8>
+    ensures { result ≡ table.byte_put action.now }
+{
+    match *action {
+        Action::Puts(value) => Some((value % 256) as u8),
+        _ => None,
+    }
+}
+
+/// How an action ends the run.
+pub(crate) fn end_of(action: &Action) -> Option<End>
+    ensures { result ≡ instruction.end_of action.now }
+{
+    match *action {
+        Action::Exits(value) => Some(End::Exit((value % 256) as u8)),
+        Action::Traps(cause) => Some(End::Trap(cause)),
+        _ => None,
+    }
 }

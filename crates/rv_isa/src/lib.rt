@@ -4,9 +4,11 @@
 pub mod arch;
 pub mod effect;
 pub mod error;
+mod runs;
 pub mod trace;
 
 pub use arch::Arch;
 pub use effect::{Effect, Retired};
 pub use error::IsaError;
+pub use runs::{run, run_clocked};
 pub use trace::Trace;

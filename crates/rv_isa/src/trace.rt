@@ -15,16 +15,34 @@ pub struct Trace {
 
 impl Model for Trace {
     ghost use Rattle.std.specs.Prelude.{length, ◌<◌, ◌^◌};
-    ghost use Rattle.rv_isa.specs.Runs.{EndedRun};
+    ghost use Rattle.rv_isa.specs.Runs.{ComesFromImage, EndedRun};
 
     ghost Value = { EndedRun };
 
     ghost view = { λ t. record { entries = t.entries.items; output = t.output.items; end = t.end } };
 
-    ghost invariant = { λ t. length t.entries.items < 2 ^ 32 };
+    ghost invariant = { λ t. (length t.entries.items < 2 ^ 32) × ComesFromImage (record { entries = t.entries.items; output = t.output.items; end = t.end }) };
 }
 
 impl Trace {
+    ghost use Rattle.rv_isa.specs.Runs.{ComesFromImage};
+
+    /// The trace of these parts.
+    pub(crate) fn new(entries: Vec<Retired>, output: Vec<u8>, end: End) -> Trace
+        requires few { length entries.items < 2 ^ 32 }
+        requires traced { ComesFromImage (record { entries = entries.items; output = output.items; end = end }) }
+        ensures { result ≡ record { entries = entries.items; output = output.items; end = end } }
+    {
+        Trace { entries, output, end }
+    }
+
+    /// Says that it is the trace of an image. It does nothing.
+    pub fn comes_from_image(&self)
+        ensures { ComesFromImage self.now }
+    {
+        let _end = self.end;
+    }
+
     /// The number of instructions, the ending one included.
     pub fn len(&self) -> u32
         ensures { result ≡ length self.now.entries }

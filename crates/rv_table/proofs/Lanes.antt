@@ -16,6 +16,16 @@ below_16 (suc (suc (suc (suc r)))) h = absurd (omega arith)
 pub byte_mask_below : (x : ℕ) → (1 * 2 ^ (x % 4)) % 256 < 16
 byte_mask_below x = below_16 (x % 4) (mod_below x 4 (lit< tt))
 
+positive : (r : ℕ) → r < 4 → 0 < (1 * 2 ^ r) % 256
+positive zero h = lit< tt
+positive (suc zero) h = lit< tt
+positive (suc (suc zero)) h = lit< tt
+positive (suc (suc (suc zero))) h = lit< tt
+positive (suc (suc (suc (suc r)))) h = absurd (omega arith)
+
+pub byte_mask_positive : (x : ℕ) → 0 < (1 * 2 ^ (x % 4)) % 256
+byte_mask_positive x = positive (x % 4) (mod_below x 4 (lit< tt))
+
 mask_by : (r : ℕ) → r < 4 → (1 * 2 ^ r) % 256 ≡ (2 ^ 1 - 1) * 2 ^ (r / 1 * 1)
 mask_by zero h = refl
 mask_by (suc zero) h = refl
@@ -45,7 +55,7 @@ word_mask x =
     let e : x % 4 / 4 ≡ 0 = omega arith in
     ap (λ k. (2 ^ 4 - 1) * 2 ^ (k * 4)) e
 
-pub ruleset masks = (byte_mask_below, byte_mask, low_half_mask, high_half_mask, word_mask)
+pub ruleset masks = (byte_mask_below, byte_mask_positive, byte_mask, low_half_mask, high_half_mask, word_mask)
 
 -- ---- the words that stores put together
 

@@ -1,6 +1,8 @@
 -- The word table: which word is which instruction, row by row in the order of the codes, as the RISC-V specification
 -- prints it.
 use Rattle.std.specs.Prelude.{ℕ, ◌+◌, ◌-◌, ◌*◌, ◌/◌, ◌%◌, ◌^◌, ◌==◌, ◌&&◌, Bool, List, [], ◌∷◌, nat_lt, if◌then◌else◌}
+use Rattle.rv_table.specs.declared.form.Form.{Form}
+use Rattle.rv_table.specs.declared.form.Form.TheVariants.{U, J, I, B, S, Shift, R, Call, Counter, NoFields}
 use Rattle.rv_table.specs.declared.op.Op.{Op}
 
 -- the fixed bits of a row: opcode, funct3 and funct7 as far as they are given, or all bits, or all but rd's
@@ -10,19 +12,6 @@ pub data Pattern : Type 0 where
   Funct7 : (opcode : ℕ) → (funct3 : ℕ) → (funct7 : ℕ) → Pattern
   Word : (word : ℕ) → Pattern
   WordButRd : (word : ℕ) → Pattern
-
--- which fields an instruction has
-pub data Form : Type 0 where
-  FormU : Form
-  FormJ : Form
-  FormI : Form
-  FormB : Form
-  FormS : Form
-  FormShift : Form
-  FormR : Form
-  FormCall : Form
-  FormCounter : Form
-  FormNone : Form
 
 -- the fields of a word
 abbrev pub opcode_of : ℕ → ℕ
@@ -74,16 +63,16 @@ matches (WordButRd word) w = w / 2 ^ 12 == word / 2 ^ 12 && w % 2 ^ 7 == word % 
 
 -- the operation of this code with the form's fields of a word; a field that the form doesn't have is 0
 abbrev pub op_of_form : Form → ℕ → ℕ → Op
-op_of_form FormU code w = record { code = code; rd = rd_of w; rs1 = 0; rs2 = 0; imm = immediate_u w }
-op_of_form FormJ code w = record { code = code; rd = rd_of w; rs1 = 0; rs2 = 0; imm = immediate_j w }
-op_of_form FormI code w = record { code = code; rd = rd_of w; rs1 = rs1_of w; rs2 = 0; imm = immediate_i w }
-op_of_form FormB code w = record { code = code; rd = 0; rs1 = rs1_of w; rs2 = rs2_of w; imm = immediate_b w }
-op_of_form FormS code w = record { code = code; rd = 0; rs1 = rs1_of w; rs2 = rs2_of w; imm = immediate_s w }
-op_of_form FormShift code w = record { code = code; rd = rd_of w; rs1 = rs1_of w; rs2 = 0; imm = rs2_of w }
-op_of_form FormR code w = record { code = code; rd = rd_of w; rs1 = rs1_of w; rs2 = rs2_of w; imm = 0 }
-op_of_form FormCall code w = record { code = code; rd = 0; rs1 = 17; rs2 = 10; imm = 0 }
-op_of_form FormCounter code w = record { code = code; rd = rd_of w; rs1 = 0; rs2 = 0; imm = 0 }
-op_of_form FormNone code w = record { code = code; rd = 0; rs1 = 0; rs2 = 0; imm = 0 }
+op_of_form U code w = record { code = code; rd = rd_of w; rs1 = 0; rs2 = 0; imm = immediate_u w }
+op_of_form J code w = record { code = code; rd = rd_of w; rs1 = 0; rs2 = 0; imm = immediate_j w }
+op_of_form I code w = record { code = code; rd = rd_of w; rs1 = rs1_of w; rs2 = 0; imm = immediate_i w }
+op_of_form B code w = record { code = code; rd = 0; rs1 = rs1_of w; rs2 = rs2_of w; imm = immediate_b w }
+op_of_form S code w = record { code = code; rd = 0; rs1 = rs1_of w; rs2 = rs2_of w; imm = immediate_s w }
+op_of_form Shift code w = record { code = code; rd = rd_of w; rs1 = rs1_of w; rs2 = 0; imm = rs2_of w }
+op_of_form R code w = record { code = code; rd = rd_of w; rs1 = rs1_of w; rs2 = rs2_of w; imm = 0 }
+op_of_form Call code w = record { code = code; rd = 0; rs1 = 17; rs2 = 10; imm = 0 }
+op_of_form Counter code w = record { code = code; rd = rd_of w; rs1 = 0; rs2 = 0; imm = 0 }
+op_of_form NoFields code w = record { code = code; rd = 0; rs1 = 0; rs2 = 0; imm = 0 }
 
 pub record Row : Type 0 where
   pub code : ℕ
@@ -96,62 +85,66 @@ row code fixed form = record { code = code; fixed = fixed; form = form }
 -- the rows, each with its name in the specification
 abbrev pub rows : List Row
 rows =
-    row 2 (Opcode 0x37) FormU ∷  -- LUI
-    row 3 (Opcode 0x17) FormU ∷  -- AUIPC
-    row 4 (Opcode 0x6F) FormJ ∷  -- JAL
-    row 5 (Funct3 0x67 0) FormI ∷  -- JALR
-    row 6 (Funct3 0x63 0) FormB ∷  -- BEQ
-    row 7 (Funct3 0x63 1) FormB ∷  -- BNE
-    row 8 (Funct3 0x63 4) FormB ∷  -- BLT
-    row 9 (Funct3 0x63 5) FormB ∷  -- BGE
-    row 10 (Funct3 0x63 6) FormB ∷  -- BLTU
-    row 11 (Funct3 0x63 7) FormB ∷  -- BGEU
-    row 12 (Funct3 0x03 0) FormI ∷  -- LB
-    row 13 (Funct3 0x03 1) FormI ∷  -- LH
-    row 14 (Funct3 0x03 2) FormI ∷  -- LW
-    row 15 (Funct3 0x03 4) FormI ∷  -- LBU
-    row 16 (Funct3 0x03 5) FormI ∷  -- LHU
-    row 17 (Funct3 0x23 0) FormS ∷  -- SB
-    row 18 (Funct3 0x23 1) FormS ∷  -- SH
-    row 19 (Funct3 0x23 2) FormS ∷  -- SW
-    row 20 (Funct3 0x13 0) FormI ∷  -- ADDI
-    row 21 (Funct3 0x13 2) FormI ∷  -- SLTI
-    row 22 (Funct3 0x13 3) FormI ∷  -- SLTIU
-    row 23 (Funct3 0x13 4) FormI ∷  -- XORI
-    row 24 (Funct3 0x13 6) FormI ∷  -- ORI
-    row 25 (Funct3 0x13 7) FormI ∷  -- ANDI
-    row 26 (Funct7 0x13 1 0x00) FormShift ∷  -- SLLI
-    row 27 (Funct7 0x13 5 0x00) FormShift ∷  -- SRLI
-    row 28 (Funct7 0x13 5 0x20) FormShift ∷  -- SRAI
-    row 29 (Funct7 0x33 0 0x00) FormR ∷  -- ADD
-    row 30 (Funct7 0x33 0 0x20) FormR ∷  -- SUB
-    row 31 (Funct7 0x33 1 0x00) FormR ∷  -- SLL
-    row 32 (Funct7 0x33 2 0x00) FormR ∷  -- SLT
-    row 33 (Funct7 0x33 3 0x00) FormR ∷  -- SLTU
-    row 34 (Funct7 0x33 4 0x00) FormR ∷  -- XOR
-    row 35 (Funct7 0x33 5 0x00) FormR ∷  -- SRL
-    row 36 (Funct7 0x33 5 0x20) FormR ∷  -- SRA
-    row 37 (Funct7 0x33 6 0x00) FormR ∷  -- OR
-    row 38 (Funct7 0x33 7 0x00) FormR ∷  -- AND
-    row 39 (Funct7 0x33 0 0x01) FormR ∷  -- MUL
-    row 40 (Funct7 0x33 1 0x01) FormR ∷  -- MULH
-    row 41 (Funct7 0x33 2 0x01) FormR ∷  -- MULHSU
-    row 42 (Funct7 0x33 3 0x01) FormR ∷  -- MULHU
-    row 43 (Funct7 0x33 4 0x01) FormR ∷  -- DIV
-    row 44 (Funct7 0x33 5 0x01) FormR ∷  -- DIVU
-    row 45 (Funct7 0x33 6 0x01) FormR ∷  -- REM
-    row 46 (Funct7 0x33 7 0x01) FormR ∷  -- REMU
-    row 47 (Funct3 0x0F 0) FormNone ∷  -- FENCE
-    row 48 (Word 0x00000073) FormCall ∷  -- ECALL
-    row 49 (Word 0x00100073) FormNone ∷  -- EBREAK
-    row 50 (WordButRd 0xC0002073) FormCounter ∷  -- RDCYCLE
-    row 51 (WordButRd 0xC0202073) FormCounter ∷  -- RDINSTRET
-    row 52 (WordButRd 0xC8002073) FormCounter ∷  -- RDCYCLEH
-    row 53 (WordButRd 0xC8202073) FormCounter ∷  -- RDINSTRETH
+    row 2 (Opcode 0x37) U ∷  -- LUI
+    row 3 (Opcode 0x17) U ∷  -- AUIPC
+    row 4 (Opcode 0x6F) J ∷  -- JAL
+    row 5 (Funct3 0x67 0) I ∷  -- JALR
+    row 6 (Funct3 0x63 0) B ∷  -- BEQ
+    row 7 (Funct3 0x63 1) B ∷  -- BNE
+    row 8 (Funct3 0x63 4) B ∷  -- BLT
+    row 9 (Funct3 0x63 5) B ∷  -- BGE
+    row 10 (Funct3 0x63 6) B ∷  -- BLTU
+    row 11 (Funct3 0x63 7) B ∷  -- BGEU
+    row 12 (Funct3 0x03 0) I ∷  -- LB
+    row 13 (Funct3 0x03 1) I ∷  -- LH
+    row 14 (Funct3 0x03 2) I ∷  -- LW
+    row 15 (Funct3 0x03 4) I ∷  -- LBU
+    row 16 (Funct3 0x03 5) I ∷  -- LHU
+    row 17 (Funct3 0x23 0) S ∷  -- SB
+    row 18 (Funct3 0x23 1) S ∷  -- SH
+    row 19 (Funct3 0x23 2) S ∷  -- SW
+    row 20 (Funct3 0x13 0) I ∷  -- ADDI
+    row 21 (Funct3 0x13 2) I ∷  -- SLTI
+    row 22 (Funct3 0x13 3) I ∷  -- SLTIU
+    row 23 (Funct3 0x13 4) I ∷  -- XORI
+    row 24 (Funct3 0x13 6) I ∷  -- ORI
+    row 25 (Funct3 0x13 7) I ∷  -- ANDI
+    row 26 (Funct7 0x13 1 0x00) Shift ∷  -- SLLI
+    row 27 (Funct7 0x13 5 0x00) Shift ∷  -- SRLI
+    row 28 (Funct7 0x13 5 0x20) Shift ∷  -- SRAI
+    row 29 (Funct7 0x33 0 0x00) R ∷  -- ADD
+    row 30 (Funct7 0x33 0 0x20) R ∷  -- SUB
+    row 31 (Funct7 0x33 1 0x00) R ∷  -- SLL
+    row 32 (Funct7 0x33 2 0x00) R ∷  -- SLT
+    row 33 (Funct7 0x33 3 0x00) R ∷  -- SLTU
+    row 34 (Funct7 0x33 4 0x00) R ∷  -- XOR
+    row 35 (Funct7 0x33 5 0x00) R ∷  -- SRL
+    row 36 (Funct7 0x33 5 0x20) R ∷  -- SRA
+    row 37 (Funct7 0x33 6 0x00) R ∷  -- OR
+    row 38 (Funct7 0x33 7 0x00) R ∷  -- AND
+    row 39 (Funct7 0x33 0 0x01) R ∷  -- MUL
+    row 40 (Funct7 0x33 1 0x01) R ∷  -- MULH
+    row 41 (Funct7 0x33 2 0x01) R ∷  -- MULHSU
+    row 42 (Funct7 0x33 3 0x01) R ∷  -- MULHU
+    row 43 (Funct7 0x33 4 0x01) R ∷  -- DIV
+    row 44 (Funct7 0x33 5 0x01) R ∷  -- DIVU
+    row 45 (Funct7 0x33 6 0x01) R ∷  -- REM
+    row 46 (Funct7 0x33 7 0x01) R ∷  -- REMU
+    row 47 (Funct3 0x0F 0) NoFields ∷  -- FENCE
+    row 48 (Word 0x00000073) Call ∷  -- ECALL
+    row 49 (Word 0x00100073) NoFields ∷  -- EBREAK
+    row 50 (WordButRd 0xC0002073) Counter ∷  -- RDCYCLE
+    row 51 (WordButRd 0xC0202073) Counter ∷  -- RDINSTRET
+    row 52 (WordButRd 0xC8002073) Counter ∷  -- RDCYCLEH
+    row 53 (WordButRd 0xC8202073) Counter ∷  -- RDINSTRETH
     []
 
+-- the operation of a word that is in no row: ILLEGAL
+abbrev pub illegal : Op
+illegal = record { code = 0; rd = 0; rs1 = 0; rs2 = 0; imm = 0 }
+
 abbrev pub first_match : List Row → ℕ → Op
-first_match [] w = record { code = 0; rd = 0; rs1 = 0; rs2 = 0; imm = 0 }
+first_match [] w = illegal
 first_match (r ∷ rs) w = if matches r.fixed w then op_of_form r.form r.code w else first_match rs w
 
 -- The operation of a word: that of the one row whose fixed bits it has, and code 0 with all fields 0 where there is none.

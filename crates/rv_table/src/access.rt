@@ -19,6 +19,7 @@ impl LoadKind {
     /// The lanes of its word that a load at byte address `place` reads: bit i for byte i.
     pub fn lanes(self, place: u32) -> u8
         ensures mask { result ≡ lane_mask (load_size self) place }
+        ensures some { 0 < result }
         ensures within { result < 16 }
     {
         match self {
@@ -44,6 +45,7 @@ impl StoreKind {
     /// The lanes of its word that a store at byte address `place` writes: bit i for byte i.
     pub fn lanes(self, place: u32) -> u8
         ensures mask { result ≡ lane_mask (store_size self) place }
+        ensures some { 0 < result }
         ensures within { result < 16 }
     {
         match self {
@@ -95,6 +97,7 @@ fn signed_half(half: u32) -> u32
 #[tactic(auto, using(crate::proofs::Lanes::masks))]
 fn byte_lane(place: u32) -> u8
     ensures mask { result ≡ lane_mask 1 place }
+    ensures some { 0 < result }
     ensures within { result < 16 }
 {
     1 << (place % 4)
@@ -103,6 +106,7 @@ fn byte_lane(place: u32) -> u8
 #[tactic(auto, using(crate::proofs::Lanes::masks))]
 fn half_lanes(place: u32) -> u8
     ensures mask { result ≡ lane_mask 2 place }
+    ensures some { 0 < result }
     ensures within { result < 16 }
 {
     if place / 2 % 2 == 0 { 0b0011 } else { 0b1100 }
@@ -111,6 +115,7 @@ fn half_lanes(place: u32) -> u8
 #[tactic(auto, using(crate::proofs::Lanes::masks))]
 fn word_lanes(place: u32) -> u8
     ensures mask { result ≡ lane_mask 4 place }
+    ensures some { 0 < result }
     ensures within { result < 16 }
 {
     let _ = place;

@@ -8,14 +8,18 @@
 mod access;
 mod action;
 mod arithmetic;
+mod decoding;
 mod execution;
+mod form;
 mod op;
 mod operation;
 
 pub use access::{load_value, store_word};
 pub use action::{Access, Action, asked, is_clocked, is_counter, next_address, with_counter};
 pub use arithmetic::{alu, holds};
+pub use decoding::decode;
 pub use execution::{Computed, compute};
+pub use form::{Form, form_of};
 pub use op::Op;
 pub use operation::{
     AluKind, BranchKind, CounterKind, LoadKind, Operation, StoreKind, operation_of,

@@ -1,0 +1,7 @@
+use Rattle.std.proofs.Common.{ℕ, ◌<◌, get_or}
+use Rattle.inst_buf.specs.Entry.{Entry}
+use Rattle.inst_buf.specs.EntryBits as slot
+use Rattle.inst_buf.proofs.buffer.InstBufStruck.fits.Given as goal
+
+abbrev pub invariant-loop-slot : goal.invariant-loop-slot
+invariant-loop-slot l = (k : ℕ) (d : Entry) → k < l.slot-index → slot.IsFit (get_or l.slot-items k d)

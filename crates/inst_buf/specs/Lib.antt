@@ -1,0 +1,4 @@
+pub mod Buffer
+pub mod BufferBits
+pub mod Entry
+pub mod EntryBits

@@ -1,0 +1,5 @@
+pub mod EntryBits
+pub mod HistoryBits
+pub mod Places
+pub mod Tables
+pub mod TargetBits

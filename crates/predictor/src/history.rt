@@ -1,0 +1,93 @@
+// The branch history: 64 two-bit counters.
+
+ghost use Rattle.std.specs.Prelude.{◌≡◌, ◌%◌, ◌<◌, ◌≤◌, slice_index, slice_set, replicate};
+ghost use Rattle.predictor.specs.Tables.{moved};
+
+use bit_field::{Struck, bit_at, flip_at_u8};
+use std::marker::Model;
+
+/// The counters of the branch history. 128 bits can be struck: counter i at bits 2i and 2i + 1.
+#[derive(Clone, Copy)]
+pub struct History {
+    counters: [u8; 64],
+}
+
+impl Model for History {
+    ghost use Rattle.std.specs.Prelude.{◌^◌, ◌<◌, ℕ, List};
+    ghost use Rattle.std.specs.List.{All};
+
+    ghost Value = { List ℕ };
+
+    ghost view = { λ x. x.counters };
+
+    ghost invariant = { λ x. All (λ counter. counter < 2 ^ 2) x.counters };
+
+    ghost inverse = { λ counters. record { counters = counters } };
+}
+
+impl Struck for History {
+    ghost use Rattle.predictor.specs.HistoryBits as history_bits;
+
+    ghost IsFit = { history_bits.IsFit };
+
+    ghost bit_count = { λ _. 128 };
+
+    ghost bit_of = { history_bits.bit_of };
+
+    ghost flipped = { history_bits.flipped };
+
+    ghost laws = { history_bits.laws };
+
+    fn bits(&self) -> u32 {
+        128
+    }
+
+    fn bit(&self, k: u32) -> bool {
+        bit_at(u32::from(self.counters[(k / 2) as usize]), k % 2)
+    }
+
+    fn flip(&mut self, k: u32) {
+        flip_at_u8(&mut self.counters[(k / 2) as usize], 2, k % 2);
+    }
+
+    fn fits(&self) {
+        let _counters = &self.counters;
+    }
+}
+
+impl History {
+    /// Each counter is 1.
+    pub fn new() -> History
+        ensures { result ≡ replicate 64 1 }
+    {
+        History { counters: [1; 64] }
+    }
+
+    /// The counter of the branch at word address `pc`.
+    pub fn counter(&self, pc: u32) -> u8
+        ensures value { result ≡ slice_index self.now (pc % 64) }
+        ensures most { result ≤ 3 }
+    {
+        self.counters[(pc % 64) as usize]
+    }
+
+    /// Raises the counter of the branch at word address `pc`, at most to 3, or lowers it, at least to 0.
+    pub fn learn(&mut self, pc: u32, taken: bool)
+        ensures { self.new ≡ slice_set self.old (pc % 64) (moved taken (slice_index self.old (pc % 64))) }
+    {
+        let counter = moved_counter(self.counter(pc), taken);
+        self.counters[(pc % 64) as usize] = counter;
+    }
+}
+
+fn moved_counter(counter: u8, taken: bool) -> u8
+    requires { counter ≤ 3 }
+    ensures value { result ≡ moved taken counter }
+    ensures most { result ≤ 3 }
+{
+    if taken {
+        (counter + 1).min(3)
+    } else {
+        counter.saturating_sub(1)
+    }
+}

@@ -1,0 +1,14 @@
+// The branch predictor, over word addresses. Every content that strikes can make is one on which it works.
+//
+// - history: the two-bit counters;
+// - targets: the buffer of branch targets;
+// - tables: both together, the next address and what a branch teaches.
+#![tactic(auto)]
+
+mod history;
+mod tables;
+mod targets;
+
+pub use history::History;
+pub use tables::Predictor;
+pub use targets::{BranchTarget, Targets};
