@@ -3,5 +3,9 @@ mod Histories
 mod Immediates
 mod MaskBits
 mod Passes
+mod SameAccess
+mod SameAlu
+mod SameResult
+mod SignedShift
 mod StepBack
 mod StepLinks
