@@ -1,4 +1,6 @@
+mod Agreement
 mod ByteBits
+mod Fields
 mod Histories
 mod Immediates
 mod MaskBits
@@ -9,3 +11,5 @@ mod SameResult
 mod SignedShift
 mod StepBack
 mod StepLinks
+mod TwinEffects
+mod Twins

@@ -1,4 +1,5 @@
 pub mod Histories
+pub mod Law
 pub mod Links
 pub mod Masks
 pub mod Needed
