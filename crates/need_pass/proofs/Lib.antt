@@ -1,15 +1,18 @@
-mod Agreement
-mod ByteBits
-mod Fields
-mod Histories
-mod Immediates
-mod MaskBits
-mod Passes
-mod SameAccess
-mod SameAlu
-mod SameResult
-mod SignedShift
-mod StepBack
-mod StepLinks
-mod TwinEffects
-mod Twins
+pub mod Agreement
+pub mod ByteBits
+pub mod Fields
+pub mod Histories
+pub mod Immediates
+pub mod MaskBits
+pub mod NeedLaw
+pub mod Passes
+pub mod Ranges
+pub mod Results
+pub mod SameAccess
+pub mod SameAlu
+pub mod SameResult
+pub mod SignedShift
+pub mod StepBack
+pub mod StepLinks
+pub mod TwinEffects
+pub mod Twins

@@ -14,7 +14,7 @@ power_split n h =
     let e : 32 - n + n ≡ 32 = omega arith in
     sym (pow-add 2 (32 - n) n) ∙ ap (λ k. 2 ^ k) e
 
-part_below : (a n : ℕ) → a < 2 ^ 32 → n < 32 → a / 2 ^ n < 2 ^ (32 - n)
+pub part_below : (a n : ℕ) → a < 2 ^ 32 → n < 32 → a / 2 ^ n < 2 ^ (32 - n)
 part_below a n h l =
     let e : 32 - n + n ≡ 32 = omega arith in
     shr_below a (32 - n) n (rw e h)

@@ -2,11 +2,11 @@
 use Rattle.std.specs.Prelude.{◌≡◌, ℕ, zero, suc, ◌+◌, ◌^◌, ◌<◌, ◌≤◌, List, [], ◌∷◌, length, drop, Option}
 use Rattle.std.specs.List.{All}
 use Rattle.avf_base.specs.declared.end.End.{End}
-use Rattle.elf_load.specs.Image.{LoadedImage}
+use Rattle.elf_load.specs.Image.{LoadedImage, IsImage}
 use Rattle.rv_isa.specs.declared.effect.Retired.{Retired}
 use Rattle.rv_isa.specs.Effects.{operand_b}
 use Rattle.rv_isa.specs.Instruction.{State, reg, end_of, action_in, op_at, instruction}
-use Rattle.rv_isa.specs.Runs.{after, reset}
+use Rattle.rv_isa.specs.Runs.{EndedRun, IsTrace, after, reset}
 use Rattle.rv_table.specs.Actions.{access_of}
 use Rattle.rv_table.specs.Effects.{byte_put}
 use Rattle.rv_table.specs.declared.action.Access.{Access}
@@ -56,3 +56,8 @@ pub record NeedLaw (image : LoadedImage) (clocks : List ℕ) (entries : List Ret
   pub agrees : (i : ℕ) (at : State) → i < length entries → IsWords at → Agrees (drop i entries) (recorded image clocks i) at → Agrees (drop (i + 1) entries) (recorded image clocks (i + 1)) (instruction image at)
   -- so all further instructions do the same, to the end of the run
   pub runs : (i n : ℕ) (at : State) → i + n ≤ length entries → IsWords at → Agrees (drop i entries) (recorded image clocks i) at → seen_of image n at ≡ seen_of image n (recorded image clocks i)
+
+-- the law, for the image and the clock values that the run is the trace of
+abbrev pub HasNeedLaw : EndedRun → Type 0
+HasNeedLaw run =
+    (image : LoadedImage) (clocks : List ℕ) → IsImage image → All (λ clock. clock < 2 ^ 32) clocks → IsTrace image clocks run → NeedLaw image clocks run.entries

@@ -1,6 +1,7 @@
 // The needs of a run, to be looked up.
 ghost use Rattle.need_pass.specs.Tables as tables;
 ghost use Rattle.need_pass.specs.Tables.{IsNeedOf};
+ghost use Rattle.need_pass.specs.Law.{HasNeedLaw};
 ghost use Rattle.std.specs.Prelude.{IfOk, [], replicate, ◌<◌, ◌≡◌, ◌≤◌};
 
 use crate::byte_histories::byte_at;
@@ -73,9 +74,12 @@ fn no_needs(alloc: Global) -> Result<Vec<History>, OutOfMemory>
     Ok(registers)
 }
 
-/// The bits that a run needs, by one walk from its last instruction to its first.
+/// The bits that a run needs, by one walk from its last instruction to its first. `IsNeedOf` says that a bit is set exactly
+/// where it is needed, and `HasNeedLaw` what that is good for: from any state that agrees with one of the run's on the needed
+/// bits, all further instructions do the same.
 pub fn needs(alloc: Global, trace: &Trace) -> Result<NeedTable, OutOfMemory>
     ensures exact { IfOk result (λ t. IsNeedOf trace.now.entries t) }
+    ensures law { HasNeedLaw trace.now }
 {
     let mut registers = no_needs(alloc)?;
     let mut bytes = BTreeMap::new(alloc);

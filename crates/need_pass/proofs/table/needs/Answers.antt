@@ -1,5 +1,6 @@
 use Rattle.std.proofs.Common.{◌≡◌, ℕ, ◌+◌, ◌-◌, length, drop, ap, subst, sym, arith}
 use Rattle.std.proofs.lemmas.List.{take_at}
+use Rattle.need_pass.proofs.NeedLaw.{need_law}
 use Rattle.need_pass.proofs.Passes.{IsPassed, passed_none, passed_more, passed_all}
 use Rattle.need_pass.proofs.table.needs.Goals as goal
 
@@ -19,8 +20,17 @@ loop-at-preserved c =
     let count : length after ≡ c.loop-at.registers.len = omega (arith, c.step_back.auto.registers, ap length c.deref_mut.ensures.value, c.loop-at.registers.ok.0) in
     rw (take_at after (drop (length after) c.loop-at.registers.items) c.loop-at.registers.len count) (passed_more entries before after bytes c.step_back.new.bytes.entries at c.entry.result.now c.entry.ensures c.step_back.auto.registers passed c.in_ok-step_back.ensures)
 
-pub returns : goal.returns
-returns c =
+pub returns-clause-exact : goal.returns-clause-exact
+returns-clause-exact c =
     let entries = c.args.trace.now.entries in
     let at : c.loop-at.at ≡ 0 = omega arith in
-    record { exact = passed_all entries c.loop-at.registers.items c.loop-at.bytes.entries c.len.result c.len.ensures (subst (IsPassed entries c.loop-at.registers.items c.loop-at.bytes.entries) at c.loop-at.invariant) }
+    passed_all entries c.loop-at.registers.items c.loop-at.bytes.entries c.len.result c.len.ensures (subst (IsPassed entries c.loop-at.registers.items c.loop-at.bytes.entries) at c.loop-at.invariant)
+
+pub returns-clause-law : goal.returns-clause-law
+returns-clause-law c = λ image clocks is fit trace. need_law image clocks c.args.trace.now is fit trace
+
+pub returns-in_err-registers-clause-law : goal.returns-in_err-registers-clause-law
+returns-in_err-registers-clause-law c = λ image clocks is fit trace. need_law image clocks c.args.trace.now is fit trace
+
+pub returns-in_err-step_back-clause-law : goal.returns-in_err-step_back-clause-law
+returns-in_err-step_back-clause-law c = λ image clocks is fit trace. need_law image clocks c.args.trace.now is fit trace
