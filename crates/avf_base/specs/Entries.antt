@@ -1,5 +1,5 @@
 -- The entries of a shelf in memory, as its vector has them.
-use Rattle.std.specs.Prelude.{ℕ, List, map, string_bytes}
+use Rattle.std.specs.Prelude.{List, map, string_bytes}
 use Rattle.avf_base.specs.declared.held.Held.{Held}
 use Rattle.avf_base.specs.States.{Entry}
 

@@ -45,10 +45,10 @@ plainly_taken sink = if sink.whole then Some sink.kept else None
 -- the same after a write of this piece
 abbrev pub plainly_written : PlainTaken → List ℕ → PlainTaken
 plainly_written sink piece = record {
-    kept = sink.kept ++ take (sink.room - length sink.kept) piece;
-    room = sink.room;
-    whole = sink.whole && nat_le (length piece) (sink.room - length sink.kept);
-  }
+  kept = sink.kept ++ take (sink.room - length sink.kept) piece;
+  room = sink.room;
+  whole = sink.whole && nat_le (length piece) (sink.room - length sink.kept);
+}
 
 -- the number of the next call; a number of 2 ^ 32 - 1 stays
 abbrev pub next_call : ℕ → ℕ

@@ -18,12 +18,11 @@ mod std_sink;
 mod held;
 
 // Whole files and whole texts.
-mod transfer;
-
 mod end;
 mod failure;
 mod refusal;
 mod steps;
+mod transfer;
 
 pub use end::End;
 pub use failure::{Failed, OutOfMemory};
@@ -38,3 +37,6 @@ pub use sink::Sink;
 pub use std_sink::StdSink;
 pub use steps::{Steps, counter};
 pub use transfer::{ReadError, read_file, write_all};
+
+#[cfg(test)]
+mod tests;

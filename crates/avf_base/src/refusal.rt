@@ -1,6 +1,10 @@
 // Why the tool writes no text.
 ghost use Rattle.std.specs.Prelude.{◌≡◌};
 ghost use Rattle.avf_base.specs.Refusals.{status_of};
+ghost use Rattle.avf_base.specs.declared.refusal.Refusal.TheVariants.{OutOfMemory as no_memory};
+
+use crate::OutOfMemory;
+use std::alloc::{AllocError, AllocFailed};
 
 /// Why the tool writes no text, or not all of it.
 #[derive(Clone, Copy, Debug, PartialEq, Eq)]
@@ -38,5 +42,29 @@ impl Refusal {
             Refusal::OutOfMemory => 8,
             Refusal::BadSource { .. } => 9,
         }
+    }
+}
+
+impl From<OutOfMemory> for Refusal {
+    ghost from_gives = { λ _ r. r ≡ no_memory };
+
+    fn from(_: OutOfMemory) -> Self {
+        Refusal::OutOfMemory
+    }
+}
+
+impl From<AllocError> for Refusal {
+    ghost from_gives = { λ _ r. r ≡ no_memory };
+
+    fn from(_: AllocError) -> Self {
+        Refusal::OutOfMemory
+    }
+}
+
+impl<T: Drop> From<AllocFailed<T>> for Refusal {
+    ghost from_gives = { λ _ r. r ≡ no_memory };
+
+    fn from(_: AllocFailed<T>) -> Self {
+        Refusal::OutOfMemory
     }
 }

@@ -1,5 +1,5 @@
 -- The laws of a flip for a list of elements of w bits each, from those of an element.
-use Rattle.std.proofs.Common.{◌≡◌, ◌≢◌, ℕ, ◌+◌, ◌-◌, ◌*◌, ◌/◌, ◌%◌, ◌^◌, ◌<◌, ◌≤◌, List, length, get_or, refl, sym, ◌∙◌, ap, subst, arith, inl, inr}
+use Rattle.std.proofs.Common.{◌≡◌, ◌≢◌, ℕ, ◌+◌, ◌-◌, ◌*◌, ◌/◌, ◌%◌, ◌^◌, ◌<◌, List, length, get_or, refl, sym, ◌∙◌, ap, subst, inl, inr}
 use Rattle.std.specs.List.{All}
 use Rattle.std.specs.Prelude.{bit_xor}
 use Rattle.std.specs.Int.{bit_at}
@@ -45,12 +45,12 @@ list_flips_no_other : {A : Type 0} (w : ℕ) (d : A) (IsFit : A → Type 0) (bit
 list_flips_no_other w d IsFit bit_of flipped pos laws xs k j h l ne =
     let within : k / w < length xs = div_below k w (length xs) pos l in
     elim (cases_eq (j / w) (k / w)) [
-      inl e ↦
-        let there : get_or (flip_array w d flipped xs k) (j / w) d ≡ flipped (get_or xs (k / w) d) (k % w) = rw e (get_or-set_same xs (k / w) _ d within) in
-        ap (λ x. bit_of x (j % w)) there
-        ∙ laws.flips_no_other _ (k % w) (j % w) (h (k / w) d within) (mod_below k w pos) (mod_below j w pos) (apart_within w k j ne e)
-        ∙ ap (λ (i : ℕ). bit_of (get_or xs i d) (j % w)) (sym e)
-    | inr other ↦ ap (λ x. bit_of x (j % w)) (get_or-set_other xs (k / w) (j / w) _ d other)
+      | inl e ↦
+          let there : get_or (flip_array w d flipped xs k) (j / w) d ≡ flipped (get_or xs (k / w) d) (k % w) = rw e (get_or-set_same xs (k / w) _ d within) in
+          ap (λ x. bit_of x (j % w)) there
+          ∙ laws.flips_no_other _ (k % w) (j % w) (h (k / w) d within) (mod_below k w pos) (mod_below j w pos) (apart_within w k j ne e)
+          ∙ ap (λ (i : ℕ). bit_of (get_or xs i d) (j % w)) (sym e)
+      | inr other ↦ ap (λ x. bit_of x (j % w)) (get_or-set_other xs (k / w) (j / w) _ d other)
     ]
 
 list_restores : {A : Type 0} (w : ℕ) (d : A) (IsFit : A → Type 0) (bit_of : A → ℕ → ℕ) (flipped : A → ℕ → A) → 0 < w → FlipLaws IsFit (λ _. w) bit_of flipped → (xs : List A) (k : ℕ) → All IsFit xs → k < length xs * w → flip_array w d flipped (flip_array w d flipped xs k) k ≡ xs
@@ -69,7 +69,7 @@ element_bit w d bit_of xs n i l = ap (λ (m : ℕ). bit_of (get_or xs m d) ((n *
 list_same : {A : Type 0} (w : ℕ) (d : A) (IsFit : A → Type 0) (bit_of : A → ℕ → ℕ) (flipped : A → ℕ → A) → FlipLaws IsFit (λ _. w) bit_of flipped → (xs ys : List A) → All IsFit xs → All IsFit ys → length xs ≡ length ys → ((k : ℕ) → k < length xs * w → bit_of_array w d bit_of xs k ≡ bit_of_array w d bit_of ys k) → xs ≡ ys
 list_same w d IsFit bit_of flipped laws xs ys h i e bits =
     ext_get_or d xs ys e (λ n l. laws.same _ _ (h n d l) (i n d (rw (sym e) l)) refl (λ j m.
-      sym (element_bit w d bit_of xs n j m) ∙ bits (n * w + j) (rw (mul_comm (length xs) w) (mul-add-lt n w j (length xs) l m)) ∙ element_bit w d bit_of ys n j m))
+    sym (element_bit w d bit_of xs n j m) ∙ bits (n * w + j) (rw (mul_comm (length xs) w) (mul-add-lt n w j (length xs) l m)) ∙ element_bit w d bit_of ys n j m))
 
 -- ---- the laws
 
@@ -133,8 +133,8 @@ numbers_restores IsFit width numbers flipped shows x k h l =
     let once : IsFit (flipped x k) = numbers_fit_stays IsFit width numbers flipped shows x k h l in
     let twice : IsFit (flipped (flipped x k) k) = numbers_fit_stays IsFit width numbers flipped shows (flipped x k) k once (rw (numbers_count_stays IsFit width numbers flipped shows x k) l) in
     shows.same _ x twice h
-      (shows.width_stays (flipped x k) k ∙ shows.width_stays x k)
-      (rw (shows.flips (flipped x k) k, shows.width_stays x k, shows.flips x k) (list_restores (width x) 0 _ bit_at _ (shows.positive x h) (laws_of_number (width x)) (numbers x) k (shows.numbers_fit x h) l))
+    (shows.width_stays (flipped x k) k ∙ shows.width_stays x k)
+    (rw (shows.flips (flipped x k) k, shows.width_stays x k, shows.flips x k) (list_restores (width x) 0 _ bit_at _ (shows.positive x h) (laws_of_number (width x)) (numbers x) k (shows.numbers_fit x h) l))
 
 pub laws_of_numbers : {S : Type 0} (IsFit : S → Type 0) (width : S → ℕ) (numbers : S → List ℕ) (flipped : S → ℕ → S) → ShowsNumbers IsFit width numbers flipped → FlipLaws IsFit (λ x. length (numbers x) * width x) (bit_of_numbers width numbers) flipped
 laws_of_numbers IsFit width numbers flipped shows = record {

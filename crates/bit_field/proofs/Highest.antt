@@ -1,10 +1,10 @@
 -- The highest 1 of a number, and the mask of the bits that are not above it.
-use Rattle.std.proofs.Common.{◌≡◌, ◌↔◌, ℕ, suc, ◌+◌, ◌-◌, ◌*◌, ◌/◌, ◌%◌, ◌^◌, ◌<◌, ◌≤◌, refl, sym, ◌∙◌, ap, arith, inl, inr}
+use Rattle.std.proofs.Common.{◌≡◌, ◌↔◌, ℕ, suc, ◌+◌, ◌-◌, ◌/◌, ◌%◌, ◌^◌, ◌<◌, ◌≤◌, ap, arith, inl, inr}
 use Rattle.std.specs.Int.{bit_at}
 use lib.Count.{count_leading_zeros}
 use Rattle.std.proofs.Math.Nat.{div-eq_of_lt-le, pow-suc}
 use Rattle.std.proofs.lemmas.Bool.{cases_lt}
-use Rattle.std.proofs.lemmas.Nat.{leading_top, leading_le}
+use Rattle.std.proofs.lemmas.Nat.{leading_top}
 use Rattle.std.proofs.lemmas.Nat.Bits.{bit_at_above, bit_at_ones, bit_at_ones_above, bit_at-zero, ones_shr}
 
 -- a number from 2 ^ j below 2 ^ (j + 1) has bit j
@@ -28,8 +28,8 @@ nonzero_bit m pos h = let (j, top) = highest m pos h in (j, omega arith, top.is_
 pub bit_nonzero : (m j : ℕ) → bit_at m j ≡ 1 → 0 < m
 bit_nonzero m j one =
     elim (cases_lt 0 m) [
-      inl l ↦ l
-    | inr l ↦ let z : m ≡ 0 = omega arith in let e : bit_at m j ≡ 0 = rw z (bit_at-zero j) in absurd (omega arith)
+      | inl l ↦ l
+      | inr l ↦ let z : m ≡ 0 = omega arith in let e : bit_at m j ≡ 0 = rw z (bit_at-zero j) in absurd (omega arith)
     ]
 
 -- all ones shifted right by the leading zeros has the bits up to the highest 1
@@ -42,12 +42,13 @@ bit_at-below_highest m k pos h =
     mask_to : (m k j : ℕ) → IsHighest m j → bit_at (2 ^ suc j - 1) k ≡ 1 → (i : ℕ) × (k ≤ i) × (bit_at m i ≡ 1)
     mask_to m k j top one =
         elim (cases_lt k (suc j)) [
-          inl l ↦ (j, omega arith, top.is_one)
-        | inr l ↦ absurd (omega (arith, bit_at_ones_above (suc j) k l))
+          | inl l ↦ (j, omega arith, top.is_one)
+          | inr l ↦ absurd (omega (arith, bit_at_ones_above (suc j) k l))
         ]
+
     mask_from : (m k j : ℕ) → IsHighest m j → (i : ℕ) × (k ≤ i) × (bit_at m i ≡ 1) → bit_at (2 ^ suc j - 1) k ≡ 1
     mask_from m k j top (i, l, one) =
         elim (cases_lt j i) [
-          inl n ↦ absurd (omega (arith, top.none_above i n))
-        | inr n ↦ bit_at_ones (suc j) k (omega arith)
+          | inl n ↦ absurd (omega (arith, top.none_above i n))
+          | inr n ↦ bit_at_ones (suc j) k (omega arith)
         ]

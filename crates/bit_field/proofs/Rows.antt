@@ -2,10 +2,10 @@
 use Rattle.std.proofs.Common.{◌≡◌, ◌≢◌, ℕ, ◌+◌, ◌-◌, ◌^◌, ◌<◌, ◌≤◌, Bool, true, false, List, [], ◌∷◌, cond, not, refl, sym, ◌∙◌, ap, arith, inl, inr, ◌⊎◌}
 use Rattle.std.specs.Int.{bit_at}
 use Rattle.std.specs.Prelude.{bit_xor, nat_lt, nat_eq}
-use Rattle.std.proofs.lemmas.Bool.{cases_lt, cases_eq, eq-eqb, ne_eqb, eqb-true}
+use Rattle.std.proofs.lemmas.Bool.{cases_lt, cases_eq, eq-eqb, ne_eqb}
 use Rattle.std.proofs.lemmas.Bool.Decides.{nat_tests}
 use Rattle.std.proofs.lemmas.Nat.Bits.{bit_at-lt, same_from_bits_below}
-use Rattle.bit_field.specs.Fields.{is_in, flip_field, end_of, bit_of_row, flip_row, IsRow, number_of, flip_bool}
+use Rattle.bit_field.specs.Fields.{flip_field, end_of, bit_of_row, flip_row, IsRow, number_of, flip_bool}
 use Rattle.bit_field.specs.Laws.{FlipLaws}
 use Rattle.bit_field.proofs.Bits.{bit_at-flip_same, bit_at-flip_other, flip_below, flip_twice}
 
@@ -27,30 +27,30 @@ places from w k = elim (cases_lt k from) [ inl l ↦ inl l | inr l ↦ elim (cas
 pub flip_field_fits : (from w v k : ℕ) → v < 2 ^ w → flip_field from w v k < 2 ^ w
 flip_field_fits from w v k h =
     elim (places from w k) [
-      inl l ↦ rw (flip_field-below from w v k l) h
-    | inr m ↦ elim m [
-        inl n ↦ rw (flip_field-in from w v k n.0 n.1) (flip_below v (k - from) w h (omega arith))
-      | inr n ↦ rw (flip_field-above from w v k n) h
+      | inl l ↦ rw (flip_field-below from w v k l) h
+      | inr m ↦ elim m [
+        | inl n ↦ rw (flip_field-in from w v k n.0 n.1) (flip_below v (k - from) w h (omega arith))
+        | inr n ↦ rw (flip_field-above from w v k n) h
       ]
     ]
 
 pub flip_field_twice : (from w v k : ℕ) → flip_field from w (flip_field from w v k) k ≡ v
 flip_field_twice from w v k =
     elim (places from w k) [
-      inl l ↦ flip_field-below from w _ k l ∙ flip_field-below from w v k l
-    | inr m ↦ elim m [
-        inl n ↦ flip_field-in from w _ k n.0 n.1 ∙ ap (λ x. bit_xor x (2 ^ (k - from))) (flip_field-in from w v k n.0 n.1) ∙ flip_twice v (k - from)
-      | inr n ↦ flip_field-above from w _ k n ∙ flip_field-above from w v k n
+      | inl l ↦ flip_field-below from w _ k l ∙ flip_field-below from w v k l
+      | inr m ↦ elim m [
+        | inl n ↦ flip_field-in from w _ k n.0 n.1 ∙ ap (λ x. bit_xor x (2 ^ (k - from))) (flip_field-in from w v k n.0 n.1) ∙ flip_twice v (k - from)
+        | inr n ↦ flip_field-above from w _ k n ∙ flip_field-above from w v k n
       ]
     ]
 
 pub bit_at-flip_field_other : (from w v k j : ℕ) → from ≤ j → j ≢ k → bit_at (flip_field from w v k) (j - from) ≡ bit_at v (j - from)
 bit_at-flip_field_other from w v k j l ne =
     elim (places from w k) [
-      inl m ↦ ap (λ x. bit_at x (j - from)) (flip_field-below from w v k m)
-    | inr m ↦ elim m [
-        inl n ↦ ap (λ x. bit_at x (j - from)) (flip_field-in from w v k n.0 n.1) ∙ bit_at-flip_other v (k - from) (j - from) (λ e. ne (omega arith))
-      | inr n ↦ ap (λ x. bit_at x (j - from)) (flip_field-above from w v k n)
+      | inl m ↦ ap (λ x. bit_at x (j - from)) (flip_field-below from w v k m)
+      | inr m ↦ elim m [
+        | inl n ↦ ap (λ x. bit_at x (j - from)) (flip_field-in from w v k n.0 n.1) ∙ bit_at-flip_other v (k - from) (j - from) (λ e. ne (omega arith))
+        | inr n ↦ ap (λ x. bit_at x (j - from)) (flip_field-above from w v k n)
       ]
     ]
 
@@ -77,8 +77,8 @@ bit_of_row_is_bit from [] vs k = omega arith
 bit_of_row_is_bit from (w ∷ ws) [] k = omega arith
 bit_of_row_is_bit from (w ∷ ws) (v ∷ vs) k =
     elim (nat_lt k (from + w)) as (λ b. cond b (bit_at v (k - from)) (bit_of_row (from + w) ws vs k) < 2) [
-      true ↦ bit_at-lt v (k - from)
-    | false ↦ bit_of_row_is_bit (from + w) ws vs k
+      | true ↦ bit_at-lt v (k - from)
+      | false ↦ bit_of_row_is_bit (from + w) ws vs k
     ]
 
 pub bit_of_row-here : (from w v : ℕ) (ws vs : List ℕ) (k : ℕ) → k < from + w → bit_of_row from (w ∷ ws) (v ∷ vs) k ≡ bit_at v (k - from)
@@ -99,8 +99,8 @@ bit_of_row-flip_same from [] vs k h l m = absurd (omega arith)
 bit_of_row-flip_same from (w ∷ ws) [] k h l m = absurd h
 bit_of_row-flip_same from (w ∷ ws) (v ∷ vs) k h l m =
     elim (cases_lt k (from + w)) [
-      inl n ↦ bit_of_row-here from w _ ws _ k n ∙ ap (λ x. bit_at x (k - from)) (flip_field-in from w v k l n) ∙ bit_at-flip_same v (k - from) ∙ ap (λ b. 1 - b) (sym (bit_of_row-here from w v ws vs k n))
-    | inr n ↦ bit_of_row-on from w _ ws _ k n ∙ bit_of_row-flip_same (from + w) ws vs k h.1 n m ∙ ap (λ b. 1 - b) (sym (bit_of_row-on from w v ws vs k n))
+      | inl n ↦ bit_of_row-here from w _ ws _ k n ∙ ap (λ x. bit_at x (k - from)) (flip_field-in from w v k l n) ∙ bit_at-flip_same v (k - from) ∙ ap (λ b. 1 - b) (sym (bit_of_row-here from w v ws vs k n))
+      | inr n ↦ bit_of_row-on from w _ ws _ k n ∙ bit_of_row-flip_same (from + w) ws vs k h.1 n m ∙ ap (λ b. 1 - b) (sym (bit_of_row-on from w v ws vs k n))
     ]
 
 pub bit_of_row-flip_other : (from : ℕ) (ws vs : List ℕ) (k j : ℕ) → from ≤ j → j ≢ k → bit_of_row from ws (flip_row from ws vs k) j ≡ bit_of_row from ws vs j
@@ -108,8 +108,8 @@ bit_of_row-flip_other from [] vs k j l ne = refl
 bit_of_row-flip_other from (w ∷ ws) [] k j l ne = refl
 bit_of_row-flip_other from (w ∷ ws) (v ∷ vs) k j l ne =
     elim (cases_lt j (from + w)) [
-      inl n ↦ bit_of_row-here from w _ ws _ j n ∙ bit_at-flip_field_other from w v k j l ne ∙ sym (bit_of_row-here from w v ws vs j n)
-    | inr n ↦ bit_of_row-on from w _ ws _ j n ∙ bit_of_row-flip_other (from + w) ws vs k j n ne ∙ sym (bit_of_row-on from w v ws vs j n)
+      | inl n ↦ bit_of_row-here from w _ ws _ j n ∙ bit_at-flip_field_other from w v k j l ne ∙ sym (bit_of_row-here from w v ws vs j n)
+      | inr n ↦ bit_of_row-on from w _ ws _ j n ∙ bit_of_row-flip_other (from + w) ws vs k j n ne ∙ sym (bit_of_row-on from w v ws vs j n)
     ]
 
 -- bit i of the first field of the row is the field's own
@@ -157,6 +157,6 @@ number_of-not false = refl
 pub number_of-flip_bool : (from : ℕ) (b : Bool) (k : ℕ) → number_of (flip_bool from b k) ≡ flip_field from 1 (number_of b) k
 number_of-flip_bool from b k =
     elim (cases_eq k from) [
-      inl e ↦ let z : 0 ≡ k - from = omega arith in rw (eq-eqb k from e) (number_of-not b ∙ ap (λ (i : ℕ). bit_xor (number_of b) (2 ^ i)) z ∙ sym (flip_field-in from 1 (number_of b) k (omega arith) (omega arith)))
-    | inr ne ↦ rw (ne_eqb k from ne) (elim (cases_lt k from) [ inl l ↦ sym (flip_field-below from 1 (number_of b) k l) | inr l ↦ sym (flip_field-above from 1 (number_of b) k (omega arith)) ])
+      | inl e ↦ let z : 0 ≡ k - from = omega arith in rw (eq-eqb k from e) (number_of-not b ∙ ap (λ (i : ℕ). bit_xor (number_of b) (2 ^ i)) z ∙ sym (flip_field-in from 1 (number_of b) k (omega arith) (omega arith)))
+      | inr ne ↦ rw (ne_eqb k from ne) (elim (cases_lt k from) [ inl l ↦ sym (flip_field-below from 1 (number_of b) k l) | inr l ↦ sym (flip_field-above from 1 (number_of b) k (omega arith)) ])
     ]

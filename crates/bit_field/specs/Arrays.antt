@@ -1,5 +1,5 @@
 -- A value seen as equal elements of w bits each, one after another.
-use Rattle.std.specs.Prelude.{◌≡◌, ℕ, ◌/◌, ◌%◌, ◌<◌, Bool, false, not, List, length}
+use Rattle.std.specs.Prelude.{◌≡◌, ℕ, ◌/◌, ◌%◌, Bool, false, not, List, length}
 use Rattle.std.specs.Prelude.{slice_index_or, slice_set}
 use Rattle.std.specs.List.{All}
 use Rattle.bit_field.specs.Fields.{number_of}

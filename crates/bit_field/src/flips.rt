@@ -7,35 +7,37 @@ ghost use Rattle.bit_field.specs.Fields.{flip_field, flip_bool};
 
 /// Flips bit `k` of a row in the field of `width` bits that begins at `from`, where it is one of the
 /// field's; else nothing changes.
-pub fn flip_u32(value: &mut u32, from: u32, width: u32, k: u32)
+#[tactic(auto, using(crate::proofs::Bits::shifted_below_32))]
+pub fn flip_u32(word: &mut u32, from: u32, width: u32, k: u32)
     requires width { width ≤ 32 }
     requires end { from + width < 2 ^ 32 }
-    ensures flips { value.new ≡ flip_field from width value.old k }
-    ensures fits { value.old < 2 ^ width → value.new < 2 ^ width }
+    ensures flips { word.new ≡ flip_field from width word.old k }
+    ensures fits { word.old < 2 ^ width → word.new < 2 ^ width }
 {
     if from <= k && k < from + width {
-        *value ^= 1 << (k - from);
+        *word ^= 1 << (k - from);
     }
 }
 
 /// `flip_u32` for a field of at most 8 bits.
-pub fn flip_u8(value: &mut u8, from: u32, width: u32, k: u32)
+#[tactic(auto, using(crate::proofs::Bits::shifted_below_8))]
+pub fn flip_u8(byte: &mut u8, from: u32, width: u32, k: u32)
     requires width { width ≤ 8 }
     requires end { from + width < 2 ^ 32 }
-    ensures flips { value.new ≡ flip_field from width value.old k }
-    ensures fits { value.old < 2 ^ width → value.new < 2 ^ width }
+    ensures flips { byte.new ≡ flip_field from width byte.old k }
+    ensures fits { byte.old < 2 ^ width → byte.new < 2 ^ width }
 {
     if from <= k && k < from + width {
-        *value ^= 1 << (k - from);
+        *byte ^= 1 << (k - from);
     }
 }
 
 /// `flip_u32` for a field of the one bit `from`.
-pub fn flip_bit(value: &mut bool, from: u32, k: u32)
-    ensures { value.new ≡ flip_bool from value.old k }
+pub fn flip_bit(flag: &mut bool, from: u32, k: u32)
+    ensures { flag.new ≡ flip_bool from flag.old k }
 {
     if k == from {
-        *value = !*value;
+        *flag = !*flag;
     }
 }
 
@@ -48,23 +50,25 @@ pub fn bit_at(value: u32, k: u32) -> bool
 }
 
 /// Flips bit `k` of a number of `width` bits.
-pub fn flip_at_u8(value: &mut u8, width: u32, k: u32)
+#[tactic(auto, using(crate::proofs::Bits::shifted_below_8))]
+pub fn flip_at_u8(byte: &mut u8, width: u32, k: u32)
     requires place { k < width }
     requires width { width ≤ 8 }
-    ensures flips { value.new ≡ bit_xor value.old (2 ^ k) }
-    ensures fits { value.old < 2 ^ width → value.new < 2 ^ width }
+    ensures flips { byte.new ≡ bit_xor byte.old (2 ^ k) }
+    ensures fits { byte.old < 2 ^ width → byte.new < 2 ^ width }
 {
-    *value ^= 1 << k;
+    *byte ^= 1 << k;
 }
 
 /// Flips bit `k` of a number of `width` bits.
-pub fn flip_at_u32(value: &mut u32, width: u32, k: u32)
+#[tactic(auto, using(crate::proofs::Bits::shifted_below_32))]
+pub fn flip_at_u32(word: &mut u32, width: u32, k: u32)
     requires place { k < width }
     requires width { width ≤ 32 }
-    ensures flips { value.new ≡ bit_xor value.old (2 ^ k) }
-    ensures fits { value.old < 2 ^ width → value.new < 2 ^ width }
+    ensures flips { word.new ≡ bit_xor word.old (2 ^ k) }
+    ensures fits { word.old < 2 ^ width → word.new < 2 ^ width }
 {
-    *value ^= 1 << k;
+    *word ^= 1 << k;
 }
 
 /// Changes nothing; says that bytes are below 2^8.

@@ -11,7 +11,12 @@ mod places;
 mod shapes;
 mod strikes;
 
-pub use flips::{bit_at, bytes_fit, flip_at_u8, flip_at_u32, flip_bit, flip_u8, flip_u32, words_fit};
+pub use flips::{
+    bit_at, bytes_fit, flip_at_u8, flip_at_u32, flip_bit, flip_u8, flip_u32, words_fit,
+};
 pub use places::{Place, Structure, structure_name, structure_named};
 pub use shapes::{Shape, bits_in, bits_of, is_shape, plain_shape, tag_bits};
 pub use strikes::Struck;
+
+#[cfg(test)]
+mod tests;

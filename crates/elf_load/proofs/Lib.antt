@@ -1,1 +1,15 @@
 pub mod Executable
+pub mod FileHeader
+pub mod Walking
+pub mod Overlap
+pub mod Neighbours
+pub mod Lowest
+pub mod Bytes
+pub mod Images
+pub mod Entry
+pub mod Lent
+pub mod Refusing
+pub mod Filling
+pub mod Accepted
+pub mod Loaded
+pub mod InRam

@@ -1,10 +1,10 @@
 -- What `segments` and `load` answer.
-use Rattle.std.specs.Prelude.{◌≡◌, ℕ, ◌+◌, ◌≤◌, ◌<◌, List, map, Some, None, Result, Ok, Err, Vec, ⊤}
-use Rattle.std.specs.List.{All, AllPairs}
+use Rattle.std.specs.Prelude.{◌≡◌, ℕ, List, map, Some, None, Result, Ok, Err, Vec, ⊤}
 use Rattle.std.specs.List.Sorted.{IsPermutation}
 use Rattle.std.specs.declared.alloc.Global.{Global}
 use Rattle.elf_load.specs.Headers.{LoadSegment, segments_of}
 use Rattle.elf_load.specs.Image.{LoadedImage}
+use Rattle.elf_load.specs.Layout.{AreApart}
 use Rattle.elf_load.specs.Meaning.{image_of}
 use Rattle.elf_load.specs.Refusal.{first_refusal}
 use Rattle.elf_load.specs.declared.error.LoadError.{LoadError}
@@ -18,8 +18,7 @@ lent s = record { vaddr = s.vaddr; bytes = s.bytes.now; memsz = s.memsz; exec = 
 -- These are the file's loadable segments, each once, none empty, in order of address: each ends before the next begins.
 pub record AreSegments (file : List ℕ) (segments : List LoadSegment) : Type 0 where
   pub same : IsPermutation (segments_of file) segments
-  pub some : All (λ s. 0 < s.memsz) segments
-  pub apart : AllPairs (λ s t. s.vaddr + s.memsz ≤ t.vaddr) segments
+  pub order : AreApart segments
 
 -- The segments, where no reason to refuse stands, or the first reason, or `OutOfMemory`.
 abbrev pub LendsSegments : List ℕ → ℕ → Result (Vec Segment Global) LoadError → Type 0

@@ -26,6 +26,19 @@ impl Model for Image {
 }
 
 impl Image {
+    /// An image of its parts.
+    pub(crate) fn from_parts(base: u32, ram: Vec<u8>, code: Vec<bool>, entry: u32) -> Image
+        requires { IsImage (record { base = base; ram = ram.items; code = code.items; entry = entry }) }
+        ensures { result ≡ record { base = base; ram = ram.items; code = code.items; entry = entry } }
+    {
+        Image {
+            base,
+            ram,
+            code,
+            entry,
+        }
+    }
+
     /// The byte address of the first byte of RAM, a multiple of 65,536.
     pub fn base(&self) -> u32
         ensures { result ≡ self.now.base }

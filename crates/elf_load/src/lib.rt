@@ -2,10 +2,18 @@
 #![tactic(auto)]
 
 pub mod error;
+mod fill;
 mod headers;
 pub mod image;
+mod layout;
+mod loader;
 pub mod segment;
+mod walk;
 
 pub use error::LoadError;
 pub use image::Image;
+pub use loader::{load, segments};
 pub use segment::Segment;
+
+#[cfg(test)]
+mod tests;

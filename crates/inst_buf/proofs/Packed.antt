@@ -1,9 +1,9 @@
 -- The list of the valid slots, and the slots that hold a list.
-use Rattle.std.proofs.Common.{◌≡◌, ℕ, zero, suc, ◌+◌, ◌-◌, ◌<◌, ◌≤◌, Bool, true, false, List, [], ◌∷◌, ◌++◌, length, filter, take, drop, replicate, get_or, cond, refl, sym, ◌∙◌, ap, arith, append_assoc, append-nil, length-append, slice_get, Some, take-append-drop, add-one}
+use Rattle.std.proofs.Common.{◌≡◌, ℕ, zero, suc, ◌+◌, ◌-◌, ◌<◌, ◌≤◌, Bool, true, false, List, [], ◌∷◌, ◌++◌, length, take, drop, replicate, get_or, cond, refl, sym, ◌∙◌, ap, arith, append_assoc, append-nil, length-append, slice_get, Some, take-append-drop}
 use Rattle.std.proofs.Math.ListN.{set}
 use Rattle.std.specs.List.{All}
-use Rattle.std.proofs.lemmas.List.{set_at, length-replicate, length-set, take_more, take_all}
-use Rattle.std.proofs.lemmas.List.Elements.{filter_more, filter-append}
+use Rattle.std.proofs.lemmas.List.{set_at, length-replicate}
+use Rattle.std.proofs.lemmas.List.Elements.{filter_more, filter-append, filter_passes, All-tail}
 use Rattle.inst_buf.specs.Entry.{Entry, no_entry}
 use Rattle.inst_buf.specs.Buffer.{entries, packed}
 
@@ -39,3 +39,40 @@ first_entry slots i x d four l is v none =
     let e : entries (take (i + 1) slots) ≡ x ∷ [] = rw none at (entries-more_valid slots i x d (omega arith) is v) in
     let whole : entries slots ≡ entries (take (i + 1) slots) ++ entries (drop (i + 1) slots) = ap entries (sym (take-append-drop (i + 1) slots)) ∙ filter-append (λ s. s.valid) (take (i + 1) slots) (drop (i + 1) slots) in
     rw (whole, e) refl
+
+-- ---- for those who use the buffer
+
+-- every waiting entry is valid, and there are at most as many as slots
+pub entries_valid : (slots : List Entry) → All (λ e. e.valid ≡ true) (entries slots)
+entries_valid slots = filter_passes (λ e. e.valid) slots
+
+pub length-entries : (slots : List Entry) → length (entries slots) ≤ length slots
+length-entries [] = omega arith
+length-entries (e ∷ slots) = length_kept e.valid e (entries slots) (length slots) (length-entries slots)
+  where
+    length_kept : (v : Bool) (e : Entry) (es : List Entry) (n : ℕ) → length es ≤ n → length (cond v (e ∷ es) es) ≤ suc n
+    length_kept true e es n h = omega arith
+    length_kept false e es n h = omega arith
+
+-- a packed list fills four slots
+pub length-packed : (waiting : List Entry) → length waiting ≤ 4 → length (packed waiting) ≡ 4
+length-packed waiting room = omega (arith, length-append waiting (replicate (4 - length waiting) no_entry), length-replicate (4 - length waiting) no_entry)
+
+-- and is read back
+entries-empty : (n : ℕ) → entries (replicate n no_entry) ≡ []
+entries-empty zero = refl
+entries-empty (suc n) = entries-empty n
+
+entries-all_valid : (waiting : List Entry) → All (λ e. e.valid ≡ true) waiting → entries waiting ≡ waiting
+entries-all_valid [] valid = refl
+entries-all_valid (e ∷ waiting) valid =
+    let first : e.valid ≡ true = valid 0 e (omega arith) in
+    let rest : entries waiting ≡ waiting = entries-all_valid waiting (All-tail (λ s. s.valid ≡ true) e waiting valid) in
+    rw (first, rest) refl
+
+pub entries-packed : (waiting : List Entry) → All (λ e. e.valid ≡ true) waiting → entries (packed waiting) ≡ waiting
+entries-packed waiting valid =
+    filter-append (λ e. e.valid) waiting (replicate (4 - length waiting) no_entry)
+    ∙ ap (λ (xs : List Entry). xs ++ entries (replicate (4 - length waiting) no_entry)) (entries-all_valid waiting valid)
+    ∙ ap (λ (xs : List Entry). waiting ++ xs) (entries-empty (4 - length waiting))
+    ∙ append-nil waiting

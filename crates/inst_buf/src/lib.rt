@@ -9,3 +9,6 @@ mod slots;
 
 pub use buffer::InstBuf;
 pub use slots::Slot;
+
+#[cfg(test)]
+mod tests;

@@ -1,5 +1,5 @@
 -- What EX makes of the instruction in ID/EX, from its operands a and b.
-use Rattle.std.specs.Prelude.{ℕ, ◌*◌, ◌&&◌, Bool, true, false, not, Option, Some, None, if◌then◌else◌}
+use Rattle.std.specs.Prelude.{ℕ, ◌&&◌, Bool, true, false, not, Option, Some, None, if◌then◌else◌}
 use Rattle.elf_load.specs.Image.{LoadedImage, executable, word_in_ram}
 use Rattle.rv_table.specs.Actions.{action, misses_target, next_address, taken}
 use Rattle.rv_table.specs.Operations.{operation_of}

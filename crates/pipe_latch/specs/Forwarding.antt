@@ -1,9 +1,9 @@
 -- Operands in EX and in ID: what forwarding makes of a held value. W is MEM/WB; M is what EX/MEM does.
-use Rattle.std.specs.Prelude.{ℕ, Bool, true, false, ◌==◌, if◌then◌else◌}
+use Rattle.std.specs.Prelude.{◌≡◌, ◌≢◌, ℕ, ◌≤◌, false, IsTrue, ◌==◌, if◌then◌else◌}
 use Rattle.rv_table.specs.declared.action.Action.{Action}
-use Rattle.rv_table.specs.declared.action.Action.TheVariants.{Nothing, Writes, Loads, Stores, Puts, Exits, Traps}
+use Rattle.rv_table.specs.declared.action.Action.TheVariants.{Writes}
 use Rattle.rv_table.specs.Effects.{is_load, written_register}
-use Rattle.pipe_latch.specs.Latches.{ResultLatch}
+use Rattle.pipe_latch.specs.Latches.{ExecutedLatch, ResultLatch}
 use Rattle.pipe_latch.specs.declared.forward.Forwarded.{Forwarded}
 use Rattle.pipe_latch.specs.declared.forward.Forwarded.TheVariants.{Value, Wait}
 
@@ -23,3 +23,16 @@ operand m w rs held =
 -- the late value of register rs: what W holds for it, else the value held so far
 unfoldable pub late : ResultLatch → ℕ → ℕ → ℕ
 late w rs held = if rs == 0 then held else (if rs == w.rd then w.value else held)
+
+-- EX/MEM holds a load of register rs, which isn't register 0: the kinds 1 to 5 are the loads.
+abbrev pub IsAwaited : ExecutedLatch → ℕ → Type 0
+IsAwaited m rs = (rs ≢ 0) × IsTrue m.valid × (1 ≤ m.kind) × (m.kind ≤ 5) × (m.rd ≡ rs)
+
+-- an operand's value, with what completing M writes in place of one that must be waited for
+abbrev pub settled : Forwarded → ℕ → ℕ
+settled (Value value) written = value
+settled Wait written = written
+
+-- this value is what completing M writes: its result, or what a load gets from memory
+abbrev pub IsWrittenBy : Action → ℕ → Type 0
+IsWrittenBy m written = is_load m ≡ false → written ≡ result_of m

@@ -1,5 +1,5 @@
 -- An action into EX/MEM, and back out of whatever that latch holds.
-use Rattle.std.specs.Prelude.{ℕ, Bool, true, false, ◌==◌, if◌then◌else◌}
+use Rattle.std.specs.Prelude.{ℕ, true, ◌==◌, if◌then◌else◌}
 use Rattle.rv_table.specs.declared.operation.LoadKind.{LoadKind}
 use Rattle.rv_table.specs.declared.operation.LoadKind.TheVariants.{Lb, Lh, Lw, Lbu, Lhu}
 use Rattle.rv_table.specs.declared.operation.StoreKind.{StoreKind}
@@ -49,3 +49,8 @@ action_by_kind m =
 -- an invalid latch does nothing
 unfoldable pub action_of : ExecutedLatch → Action
 action_of m = if m.valid then action_by_kind m else Nothing
+
+-- the number of the trap that an action is, else 0
+abbrev pub trap_number : Action → ℕ
+trap_number (Traps cause) = cause
+trap_number _ = 0

@@ -1,28 +1,28 @@
 -- What the pipeline's latches hold, whatever that is.
-use Rattle.std.specs.Prelude.{ℕ, Bool, true, false}
+use Rattle.std.specs.Prelude.{ℕ, Bool, false}
 use Rattle.rv_table.specs.declared.op.Op.{Op}
 
 -- ID/EX: a decoded instruction on its way into EX
 pub record DecodedLatch : Type 0 where
   pub valid : Bool
-  pub pc : ℕ       -- word address
-  pub op : ℕ       -- the instruction's code
+  pub pc : ℕ  -- word address
+  pub op : ℕ  -- the instruction's code
   pub rd : ℕ
   pub rs1 : ℕ
   pub rs2 : ℕ
-  pub a : ℕ        -- the value held for rs1
-  pub b : ℕ        -- the value held for rs2
+  pub a : ℕ  -- the value held for rs1
+  pub b : ℕ  -- the value held for rs2
   pub imm : ℕ
-  pub count : ℕ    -- cycles that it must still wait
+  pub count : ℕ  -- cycles that it must still wait
 
 -- EX/MEM: what EX asks of the memory stage
 pub record ExecutedLatch : Type 0 where
   pub valid : Bool
   pub kind : ℕ
   pub rd : ℕ
-  pub x : ℕ        -- result or byte address
-  pub y : ℕ        -- value to store
-  pub cause : ℕ    -- of a trap
+  pub x : ℕ  -- result or byte address
+  pub y : ℕ  -- value to store
+  pub cause : ℕ  -- of a trap
 
 -- MEM/WB: what is written into the register file; rd 0 is none
 pub record ResultLatch : Type 0 where

@@ -1,6 +1,21 @@
-// The pipeline's latches, operands and execution.
+// The latches of the pipeline, the operands that execution takes, and execution.
+//
+// - id_ex, ex_mem, mem_wb: what the three latches hold, and their bits; an action into EX/MEM and back;
+// - forward: what forwarding makes of a held value;
+// - execution: what EX makes of the instruction in ID/EX.
 #![tactic(auto)]
 
+mod ex_mem;
+mod execution;
 mod forward;
+mod id_ex;
+mod mem_wb;
 
-pub use forward::Forwarded;
+pub use ex_mem::{ExMem, latch_for};
+pub use execution::{Executed, execute};
+pub use forward::{Forwarded, late, operand};
+pub use id_ex::IdEx;
+pub use mem_wb::MemWb;
+
+#[cfg(test)]
+mod tests;

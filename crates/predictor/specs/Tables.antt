@@ -4,12 +4,12 @@ use Rattle.std.specs.Prelude.{ℕ, ◌+◌, ◌-◌, ◌/◌, ◌%◌, ◌^◌, 
 -- an entry of the branch target buffer
 pub record Target : Type 0 where
   pub valid : Bool
-  pub tag : ℕ          -- the upper 26 bits of the branch's word address
-  pub target : ℕ       -- the word address that it went to
+  pub tag : ℕ  -- the upper 26 bits of the branch's word address
+  pub target : ℕ  -- the word address that it went to
 
 pub record Tables : Type 0 where
-  pub history : List ℕ        -- 64 counters, 0 to 3
-  pub targets : List Target   -- 16 entries
+  pub history : List ℕ  -- 64 counters, 0 to 3
+  pub targets : List Target  -- 16 entries
 
 abbrev pub no_target : Target
 no_target = record { valid = false; tag = 0; target = 0 }

@@ -12,3 +12,6 @@ mod targets;
 pub use history::History;
 pub use tables::Predictor;
 pub use targets::{BranchTarget, Targets};
+
+#[cfg(test)]
+mod tests;

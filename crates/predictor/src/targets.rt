@@ -7,7 +7,7 @@ use bit_field::{Struck, bit_at, flip_bit, flip_u32};
 use std::marker::Model;
 
 /// An entry of the branch target buffer. 57 bits can be struck: valid 0, tag 1 to 26, target 27 to 56.
-#[derive(Clone, Copy)]
+#[derive(Clone, Copy, PartialEq, Eq, Debug)]
 pub struct BranchTarget {
     /// Whether a branch was seen.
     pub valid: bool,

@@ -1,6 +1,5 @@
 -- What memory allows of an action, as the program asks for it.
-use Rattle.std.proofs.Common.{◌≡◌, ℕ, zero, suc, ◌+◌, ◌*◌, ◌/◌, ◌^◌, ◌<◌, ◌≤◌, ◌&&◌, ◌||◌, Bool, true, false, Some, None, refl, sym, ◌∙◌, arith}
-use Rattle.std.specs.Prelude.{IsTrue}
+use Rattle.std.proofs.Common.{◌≡◌, ℕ, ◌+◌, ◌/◌, ◌^◌, ◌≤◌, ◌&&◌, true, Some, arith}
 use Rattle.std.proofs.lemmas.Bool.Decides.{nat_tests}
 use Rattle.elf_load.specs.Image.{LoadedImage, IsImage, any_executable, executable, in_ram, word_in_ram}
 use Rattle.rv_table.proofs.Judged.{judged-no_access}
@@ -10,7 +9,7 @@ use Rattle.rv_table.specs.declared.action.Access.{Access}
 use Rattle.rv_table.specs.declared.action.Action.{Action}
 use Rattle.rv_table.specs.declared.operation.StoreKind.{StoreKind}
 use Rattle.rv_table.specs.declared.operation.StoreKind.TheVariants.{Sb, Sh, Sw}
-use Rattle.rv_table.specs.declared.action.Action.TheVariants.{Nothing, Writes, Loads, Stores, Puts, Exits, Traps}
+use Rattle.rv_table.specs.declared.action.Action.TheVariants.{Stores}
 
 -- a place in RAM leaves room for four bytes
 pub word_below : (image : LoadedImage) (place : ℕ) → IsImage image → word_in_ram image (place / 4) ≡ true → place + 4 ≤ 2 ^ 32

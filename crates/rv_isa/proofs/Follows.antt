@@ -1,5 +1,5 @@
 -- What the program keeps of a run follows the run's states.
-use Rattle.std.proofs.Common.{◌≡◌, ℕ, zero, suc, ◌+◌, ◌<◌, ◌≤◌, ◌⊎◌, inl, inr, List, [], ◌∷◌, ◌++◌, length, length-append, Option, Some, None, refl, sym, ◌∙◌, ap, subst, arith}
+use Rattle.std.proofs.Common.{◌≡◌, ℕ, zero, suc, ◌<◌, inl, inr, List, [], ◌∷◌, ◌++◌, length, length-append, Some, None, refl, sym, ◌∙◌, ap, subst, arith}
 use Rattle.std.specs.Prelude.{slice_get}
 use Rattle.std.proofs.lemmas.Bool.{cases_eq}
 use Rattle.elf_load.specs.Image.{LoadedImage}
@@ -9,7 +9,7 @@ use Rattle.rv_isa.proofs.Steps.{effect_is_step}
 use Rattle.rv_isa.specs.Architecture.{ArchState, state_of}
 use Rattle.rv_isa.specs.Effects.{committed, effect_by, effect_of, retired_at}
 use Rattle.rv_isa.specs.Instruction.{State, instruction, op_at, with_byte}
-use Rattle.rv_isa.specs.Runs.{EndedRun, IsTrace, after, reset}
+use Rattle.rv_isa.specs.Runs.{IsTrace, after, reset}
 use Rattle.rv_isa.specs.declared.effect.Effect.{Effect}
 use Rattle.rv_isa.specs.declared.effect.Retired.{Retired}
 
@@ -80,7 +80,7 @@ record Reaches (image : LoadedImage) (clocks : List ℕ) (entries : List Retired
 recorded-more : (image : LoadedImage) (start : State) (entries : List Retired) (retired : Retired) → ((i : ℕ) → i < length entries → slice_get entries i ≡ Some (retired_at image (after image i start))) → retired ≡ retired_at image (after image (length entries) start) → (i : ℕ) → i < suc (length entries) → slice_get (entries ++ retired ∷ []) i ≡ Some (retired_at image (after image i start))
 recorded-more image start entries retired before here i h =
     elim (cases_eq i (length entries)) [
-      inl last ↦ ap (slice_get (entries ++ retired ∷ [])) last ∙ get-last entries retired ∙ ap Some here ∙ ap (λ k. Some (retired_at image (after image k start))) (sym last)
+      | inl last ↦ ap (slice_get (entries ++ retired ∷ [])) last ∙ get-last entries retired ∙ ap Some here ∙ ap (λ k. Some (retired_at image (after image k start))) (sym last)
       | inr other ↦ get-before entries retired i (omega arith) ∙ before i (omega arith)
     ]
 
@@ -90,10 +90,10 @@ retires_next image clocks entries entries' output output' arch arch' retired fol
     let start = reset image clocks in
     let at = after image n start in
     let here : retired ≡ retired_at image at =
-        retires.fetched ∙ ap (λ i. retired_at i (state_of arch)) follows.image_stays ∙ ap (retired_at image) follows.state ∙ retired-silent image at in
+    retires.fetched ∙ ap (λ i. retired_at i (state_of arch)) follows.image_stays ∙ ap (retired_at image) follows.state ∙ retired-silent image at in
     let count : length entries' ≡ suc n = rw (retires.entry, length-append) (omega arith) in
     let next : after image (length entries') start ≡ instruction image at =
-        ap (λ m. after image m start) count ∙ after-next image n start follows.running in
+    ap (λ m. after image m start) count ∙ after-next image n start follows.running in
     let leads : Next image at (instruction image at) retired = subst (Next image at (instruction image at)) (sym here) (next_of image at) in
     record {
       stop = ap (λ s. s.stop) next ∙ leads.stop;

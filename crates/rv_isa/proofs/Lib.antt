@@ -1,4 +1,5 @@
 pub mod Allowed
+pub mod Entries
 pub mod Follows
 pub mod Lists
 pub mod Memory

@@ -1,6 +1,5 @@
 -- The states of a run: one instruction more, and no more after an end.
-use Rattle.std.proofs.Common.{◌≡◌, ℕ, zero, suc, ◌+◌, ◌-◌, ◌<◌, ◌≤◌, Option, Some, None, refl, sym, ◌∙◌, ap, subst, arith, if◌then◌else◌}
-use Rattle.std.specs.Prelude.{is_none}
+use Rattle.std.proofs.Common.{◌≡◌, ℕ, zero, suc, ◌+◌, ◌-◌, ◌≤◌, Option, Some, None, refl, sym, ◌∙◌, ap, arith}
 use Rattle.elf_load.specs.Image.{LoadedImage}
 use Rattle.avf_base.specs.declared.end.End.{End}
 use Rattle.rv_isa.specs.Instruction.{State, instruction}

@@ -1,18 +1,17 @@
 -- An effect can be committed, and committing it is the step of its operation.
-use Rattle.std.proofs.Common.{◌≡◌, ℕ, ◌+◌, ◌*◌, ◌/◌, ◌%◌, ◌^◌, ◌<◌, ◌==◌, Bool, true, false, Option, Some, None, refl, sym, ◌∙◌, ap, subst, arith, if◌then◌else◌}
+use Rattle.std.proofs.Common.{◌≡◌, ℕ, ◌*◌, ◌/◌, ◌%◌, ◌<◌, ◌==◌, Bool, true, false, Some, None, refl, sym, subst, arith, if◌then◌else◌}
 use Rattle.std.proofs.lemmas.Bool.Decides.{nat_tests}
 use Rattle.std.specs.Option.{ForSome}
 use Rattle.elf_load.specs.Image.{LoadedImage, word_in_ram}
-use Rattle.rv_table.proofs.Addresses.{next_address-below}
 use Rattle.rv_table.specs.Accesses.{store_size}
-use Rattle.rv_table.specs.Actions.{next_address, is_clocked}
+use Rattle.rv_table.specs.Actions.{next_address}
 use Rattle.rv_table.specs.Effects.{written_register}
 use Rattle.rv_table.specs.declared.op.Op.{Op}
 use Rattle.rv_table.specs.declared.action.Action.{Action}
 use Rattle.rv_table.specs.declared.operation.StoreKind.{StoreKind}
-use Rattle.rv_table.specs.declared.action.Action.TheVariants.{Nothing, Writes, Loads, Stores, Puts, Exits, Traps}
+use Rattle.rv_table.specs.declared.action.Action.TheVariants.{Stores}
 use Rattle.rv_isa.proofs.Stores.{store_allowed, register_below, store_in_ram, stored_there}
-use Rattle.rv_isa.specs.Effects.{CanCommit, IsInRam, IsStep, committed, effect_by, effect_of, operand_b, operated, store_of, with_store, with_write, write_of}
+use Rattle.rv_isa.specs.Effects.{CanCommit, IsInRam, IsStep, committed, effect_by, effect_of, operand_b, store_of, with_store, with_write, write_of}
 use Rattle.rv_isa.specs.Instruction.{State, action_in, completed, given, memory_after, put_reg, reg}
 
 -- what holds of each store that memory allowed

@@ -1,28 +1,27 @@
 -- The stores and the registers that an operation asks for.
-use Rattle.std.proofs.Common.{◌≡◌, ℕ, zero, suc, ◌+◌, ◌-◌, ◌*◌, ◌/◌, ◌%◌, ◌^◌, ◌<◌, ◌≤◌, ◌==◌, ◌&&◌, ◌⊎◌, Bool, true, false, Some, None, refl, sym, ◌∙◌, ap, arith, inl, inr, if◌then◌else◌}
-use Rattle.std.specs.Prelude.{IsTrue, nat_le, nat_lt}
+use Rattle.std.proofs.Common.{◌≡◌, ℕ, ◌/◌, ◌%◌, ◌<◌, true, Some, refl, arith, inl, inr}
 use Rattle.std.proofs.Math.Path.{fun_ext}
 use Rattle.std.proofs.lemmas.Bool.Decides.{nat_tests}
 use Rattle.elf_load.specs.Image.{LoadedImage, in_ram, executable, word_in_ram}
-use Rattle.rv_table.specs.Accesses.{accesses, store_size, load_size, stored}
+use Rattle.rv_table.specs.Accesses.{accesses, store_size, stored}
 use Rattle.rv_table.specs.Actions.{action, asked, asked_by, judged}
 use Rattle.rv_table.specs.Effects.{written_register}
 use Rattle.rv_table.specs.Operations.{operation_of}
 use Rattle.rv_table.specs.declared.op.Op.{Op}
 use Rattle.rv_table.specs.declared.operation.Operation.{Operation}
 use Rattle.rv_table.specs.declared.action.Action.{Action}
-use Rattle.rv_table.specs.declared.action.Action.TheVariants.{Nothing, Writes, Loads, Stores, Puts, Exits, Traps}
+use Rattle.rv_table.specs.declared.action.Action.TheVariants.{Stores}
 use Rattle.rv_table.specs.declared.operation.StoreKind.{StoreKind}
 use Rattle.rv_table.specs.declared.operation.StoreKind.TheVariants.{Sb, Sh, Sw}
 use Rattle.rv_isa.specs.Effects.{IsInRam, with_store}
 use Rattle.rv_isa.specs.Instruction.{action_in}
 
 -- a store that is asked for is aligned
-asked_by-aligned : (o : Operation) (op : Op) (pc a b : ℕ) (kind : StoreKind) (x y : ℕ) → asked_by o op pc a b ≡ Stores kind x y → x % store_size kind ≡ 0
+pub asked_by-aligned : (o : Operation) (op : Op) (pc a b : ℕ) (kind : StoreKind) (x y : ℕ) → asked_by o op pc a b ≡ Stores kind x y → x % store_size kind ≡ 0
 unfolding asked_by
 asked_by-aligned o op pc a b kind x y e = grind (arith, nat_tests)
 
-judged-store : (image : LoadedImage) (done : Action) (kind : StoreKind) (x y : ℕ) → judged (word_in_ram image) (executable image) done ≡ Stores kind x y → (done ≡ Stores kind x y) × (word_in_ram image (x / 4) ≡ true)
+pub judged-store : (image : LoadedImage) (done : Action) (kind : StoreKind) (x y : ℕ) → judged (word_in_ram image) (executable image) done ≡ Stores kind x y → (done ≡ Stores kind x y) × (word_in_ram image (x / 4) ≡ true)
 unfolding judged
 judged-store image done kind x y e = grind (arith, nat_tests)
 

@@ -1,5 +1,5 @@
 -- The architectural state as the program holds it, in lists, and the state of the instruction set's run that it stands for.
-use Rattle.std.specs.Prelude.{◌≡◌, ℕ, ◌+◌, ◌-◌, ◌^◌, ◌<◌, ◌&&◌, Bool, nat_le, nat_lt, List, [], length, slice_index, Option, None, if◌then◌else◌}
+use Rattle.std.specs.Prelude.{◌≡◌, ℕ, ◌+◌, ◌-◌, ◌^◌, ◌<◌, ◌&&◌, nat_le, nat_lt, List, [], length, slice_index, None, if◌then◌else◌}
 use Rattle.elf_load.specs.Image.{LoadedImage, IsImage, in_ram}
 use Rattle.rv_isa.specs.Instruction.{State}
 use Rattle.rv_table.specs.Accesses.{byte_of}

@@ -1,5 +1,5 @@
 -- What one instruction does, told from outside, and what committing it changes.
-use Rattle.std.specs.Prelude.{◌≡◌, ℕ, ◌+◌, ◌-◌, ◌*◌, ◌/◌, ◌%◌, ◌<◌, ◌==◌, ◌&&◌, ◌⊎◌, Bool, nat_le, nat_lt, IsTrue, Option, Some, None, if◌then◌else◌}
+use Rattle.std.specs.Prelude.{◌≡◌, ℕ, ◌+◌, ◌-◌, ◌*◌, ◌/◌, ◌%◌, ◌^◌, ◌<◌, ◌==◌, ◌&&◌, ◌⊎◌, nat_le, nat_lt, IsTrue, Option, Some, None, if◌then◌else◌}
 use Rattle.std.specs.Option.{ForSome}
 use Rattle.elf_load.specs.Image.{LoadedImage, in_ram}
 use Rattle.rv_isa.specs.Instruction.{State, reg, put_reg, given, end_of, with_byte, first_clock, later_clocks, next_count, action_in, completed, op_at}
@@ -10,7 +10,7 @@ use Rattle.rv_table.specs.Actions.{next_address, with_counter, is_clocked}
 use Rattle.rv_table.specs.Effects.{byte_put, written_register}
 use Rattle.rv_table.specs.declared.op.Op.{Op}
 use Rattle.rv_table.specs.declared.action.Action.{Action}
-use Rattle.rv_table.specs.declared.action.Action.TheVariants.{Nothing, Writes, Loads, Stores, Puts, Exits, Traps}
+use Rattle.rv_table.specs.declared.action.Action.TheVariants.{Loads, Stores}
 
 -- the register that an action writes, but for register 0, and its value
 abbrev pub write_of : LoadedImage → Action → (ℕ → ℕ) → Option (ℕ × ℕ)
@@ -101,3 +101,17 @@ pub record CanCommit (image : LoadedImage) (effect : Effect) : Type 0 where
   pub next : effect.next % 4 ≡ 0
   pub write : ForSome effect.write (λ write. (0 < write.0) × (write.0 < 32))
   pub store : ForSome effect.store (λ store. IsInRam image store.0 store.1)
+
+-- 1, 2 or 4 bytes at an address that is a multiple of their number
+pub record IsAccess (place length : ℕ) : Type 0 where
+  pub whole : (length ≡ 1) ⊎ (length ≡ 2) ⊎ (length ≡ 4)
+  pub aligned : place % length ≡ 0
+  pub below : place < 2 ^ 32
+
+-- what holds of each instruction of a trace
+pub record IsRetired (entry : Retired) : Type 0 where
+  pub rs1 : entry.op.rs1 < 32
+  pub rs2 : entry.op.rs2 < 32
+  pub write : ForSome entry.effect.write (λ write. (0 < write.0) × (write.0 < 32))
+  pub load : ForSome entry.effect.load (λ load. IsAccess load.0 load.1)
+  pub store : ForSome entry.effect.store (λ store. IsAccess store.0 store.1)

@@ -1,5 +1,5 @@
 -- One instruction: what it does to registers, memory, address, instruction count and clock values.
-use Rattle.std.specs.Prelude.{◌≡◌, ℕ, ◌+◌, ◌*◌, ◌/◌, ◌%◌, ◌^◌, ◌<◌, ◌==◌, Bool, true, false, List, [], ◌∷◌, ◌++◌, Option, Some, None, if◌then◌else◌}
+use Rattle.std.specs.Prelude.{ℕ, ◌+◌, ◌/◌, ◌%◌, ◌^◌, ◌==◌, List, [], ◌∷◌, ◌++◌, Option, Some, None, if◌then◌else◌}
 use Rattle.elf_load.specs.Image.{LoadedImage, executable, fetch, word_in_ram}
 use Rattle.avf_base.specs.declared.end.End.{End}
 use Rattle.avf_base.specs.declared.end.End.TheVariants.{Exit, Trap}
@@ -9,7 +9,7 @@ use Rattle.rv_table.specs.Effects.{byte_put, written_register}
 use Rattle.rv_table.specs.Words.{decode}
 use Rattle.rv_table.specs.declared.op.Op.{Op}
 use Rattle.rv_table.specs.declared.action.Action.{Action}
-use Rattle.rv_table.specs.declared.action.Action.TheVariants.{Nothing, Writes, Loads, Stores, Puts, Exits, Traps}
+use Rattle.rv_table.specs.declared.action.Action.TheVariants.{Nothing, Writes, Loads, Stores, Exits, Traps}
 
 -- what a run has done so far: the bytes that it put, and the actions that it completed, in order
 pub record Log : Type 0 where

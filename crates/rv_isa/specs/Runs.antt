@@ -1,5 +1,5 @@
 -- The architectural run of an image: its states, and what is recorded of it.
-use Rattle.std.specs.Prelude.{◌≡◌, ℕ, ◌+◌, ◌-◌, ◌*◌, ◌/◌, ◌<◌, ◌≤◌, ◌==◌, Bool, true, false, is_none, List, [], ◌∷◌, length, Option, Some, None, Result, Ok, Err, zero, suc, if◌then◌else◌, slice_get, slice_index_or}
+use Rattle.std.specs.Prelude.{◌≡◌, ℕ, ◌-◌, ◌/◌, ◌<◌, ◌≤◌, is_none, List, [], length, Some, None, Result, Ok, Err, zero, suc, if◌then◌else◌, slice_get, slice_index_or}
 use Rattle.elf_load.specs.Image.{LoadedImage, IsImage, in_ram}
 use Rattle.avf_base.specs.declared.end.End.{End}
 use Rattle.rv_isa.specs.Effects.{retired_at}

@@ -9,12 +9,14 @@ ghost use Rattle.rv_isa.specs.Runs.{reset};
 ghost use Rattle.rv_table.specs.Accesses.{word_at, word_of_bytes};
 ghost use Rattle.rv_table.specs.Actions.{judged};
 
-use crate::{Effect, Retired};
 use crate::effect::{byte_put, end_of, load_of, store_of, written_register};
+use crate::{Effect, Retired};
 use avf_base::{OutOfMemory, Steps};
 use byteorder::{ByteOrder, LittleEndian};
 use elf_load::Image;
-use rv_table::{Access, Action, Op, asked, decode, is_clocked, load_value, next_address, with_counter};
+use rv_table::{
+    Access, Action, Op, asked, decode, is_clocked, load_value, next_address, with_counter,
+};
 use std::alloc::Global;
 use std::marker::Model;
 use std::sync::ledger::Ledger;
@@ -117,11 +119,17 @@ impl<'i> Arch<'i> {
     {
         match self.image.fetch(self.pc) {
             Some(word) => decode(word),
-            None => Op { code: 1, rd: 0, rs1: 0, rs2: 0, imm: 0 },
+            None => Op {
+                code: 1,
+                rd: 0,
+                rs1: 0,
+                rs2: 0,
+                imm: 0,
+            },
         }
     }
 
-    /// What an operation does in this state. It counts one in `applies`.
+    /// What an operation does in this state: `commit` of the effect is the operation's step. It counts one in `applies`.
     pub fn effect<L: Ledger>(&self, op: &Op, applies: &mut Steps<L>) -> Effect
         requires rd { op.now.rd < 32 }
         requires rs1 { op.now.rs1 < 32 }
@@ -135,6 +143,7 @@ impl<'i> Arch<'i> {
         self.effect_of(op)
     }
 
+    /// What an operation does in this state, uncounted.
     #[tactic(auto, unfolding(crate::specs::Effects::effect_of))]
     fn effect_of(&self, op: &Op) -> Effect
         requires rs1 { op.now.rs1 < 32 }
@@ -177,7 +186,10 @@ impl<'i> Arch<'i> {
         ensures { result ≡ judged (word_in_ram self.now.image) (executable self.now.image) action }
     {
         match action.access() {
-            Some(access) => action.judged(self.image.word_in_ram(access.place / 4), self.writes_code(&access)),
+            Some(access) => action.judged(
+                self.image.word_in_ram(access.place / 4),
+                self.writes_code(&access),
+            ),
             None => action,
         }
     }
@@ -259,16 +271,24 @@ impl<'i> Arch<'i> {
         let b = self.reg(op.rs2);
         let effect = self.effect(&op, applies);
         self.commit(&effect);
-        Retired { pc, op, a, b, effect }
+        Retired {
+            pc,
+            op,
+            a,
+            b,
+            effect,
+        }
     }
 }
 
+/// The registers at reset.
 fn zeros() -> [u32; 32]
     ensures { result ≡ replicate 32 0 }
 {
     [0; 32]
 }
 
+/// Writes a register, 1 to 31.
 #[tactic(auto, using(crate::proofs::Lists::indexed))]
 fn write_register(registers: &mut [u32; 32], write: Option<(u8, u32)>)
     requires { ForSome write (λ write. (0 < write.0) × (write.0 < 32)) }
@@ -281,8 +301,8 @@ fn write_register(registers: &mut [u32; 32], write: Option<(u8, u32)>)
     }
 }
 
-#[tactic(auto, using(crate::proofs::Lists::word_of_list))]
 /// The little-endian word from index `at` on.
+#[tactic(auto, using(crate::proofs::Lists::word_of_list))]
 fn word_from(bytes: &[u8], at: usize) -> u32
     requires { at + 4 ≤ length bytes.now }
     ensures { result ≡ word_of_bytes (λ i. slice_index bytes.now (at + i)) }
@@ -290,6 +310,7 @@ fn word_from(bytes: &[u8], at: usize) -> u32
     LittleEndian::read_u32(&bytes[at..])
 }
 
+/// Stores the low bytes of a value at a byte address in RAM.
 fn write_memory(memory: &mut Vec<u8>, image: &Image, store: Option<(u32, u8, u32)>)
     requires place { ForSome store (λ store. IsInRam image.now store.0 store.1) }
     requires size { length memory.old.items ≡ length image.now.ram }
@@ -302,8 +323,8 @@ fn write_memory(memory: &mut Vec<u8>, image: &Image, store: Option<(u32, u8, u32
     }
 }
 
-#[tactic(auto, using(crate::proofs::Lists::stored_more))]
 /// Stores the low `size` bytes of a value, the lowest first, from index `at` on.
+#[tactic(auto, using(crate::proofs::Lists::stored_more))]
 fn store_bytes(bytes: &mut Vec<u8>, at: usize, size: u8, value: u32)
     requires place { at + size ≤ length bytes.old.items }
     requires size { size ≤ 4 }
@@ -315,12 +336,16 @@ fn store_bytes(bytes: &mut Vec<u8>, at: usize, size: u8, value: u32)
     }
 }
 
-#[tactic(auto, using(crate::proofs::Lists::clock_steps))]
 /// How many clock values are taken after an instruction.
+#[tactic(auto, using(crate::proofs::Lists::clock_steps))]
 fn taken_after(clocks: &[u32], taken: usize, clocked: bool) -> usize
     requires { taken ≤ length clocks.now }
     ensures values { drop result clocks.now ≡ (if clocked then later_clocks (drop taken clocks.now) else drop taken clocks.now) }
     ensures within { result ≤ length clocks.now }
 {
-    if clocked && taken < clocks.len() { taken + 1 } else { taken }
+    if clocked && taken < clocks.len() {
+        taken + 1
+    } else {
+        taken
+    }
 }

@@ -12,3 +12,6 @@ pub use effect::{Effect, Retired};
 pub use error::IsaError;
 pub use runs::{run, run_clocked};
 pub use trace::Trace;
+
+#[cfg(test)]
+mod tests;

@@ -10,7 +10,12 @@ use std::alloc::Global;
 use std::sync::ledger::Ledger;
 
 /// The run of an image, of at most `limit` instructions. It counts each instruction that it performs in `applies`.
-pub fn run<L: Ledger>(alloc: Global, image: &Image, limit: u32, applies: &mut Steps<L>) -> Result<Trace, IsaError>
+pub fn run<L: Ledger>(
+    alloc: Global,
+    image: &Image,
+    limit: u32,
+    applies: &mut Steps<L>,
+) -> Result<Trace, IsaError>
     ensures answer { IsAnswer image.now [] limit result }
     ensures ticks { MatchResult result (λ trace. applies.new ≡ applies.old + length trace.entries) (λ _. applies.new ≤ applies.old + limit) }
 {
@@ -19,7 +24,13 @@ pub fn run<L: Ledger>(alloc: Global, image: &Image, limit: u32, applies: &mut St
 
 /// The run of an image, of at most `limit` instructions, with the clock values that RDCYCLE takes, in order. It counts
 /// each instruction that it performs in `applies`.
-pub fn run_clocked<L: Ledger>(alloc: Global, image: &Image, limit: u32, clocks: &[u32], applies: &mut Steps<L>) -> Result<Trace, IsaError>
+pub fn run_clocked<L: Ledger>(
+    alloc: Global,
+    image: &Image,
+    limit: u32,
+    clocks: &[u32],
+    applies: &mut Steps<L>,
+) -> Result<Trace, IsaError>
     ensures answer { IsAnswer image.now clocks.now limit result }
     ensures ticks { MatchResult result (λ trace. applies.new ≡ applies.old + length trace.entries) (λ _. applies.new ≤ applies.old + limit) }
 {
@@ -38,7 +49,11 @@ pub fn run_clocked<L: Ledger>(alloc: Global, image: &Image, limit: u32, clocks: 
 }
 
 /// Keeps an instruction and the byte that it put.
-fn keep(entries: &mut Vec<Retired>, output: &mut Vec<u8>, retired: &Retired) -> Result<(), OutOfMemory>
+fn keep(
+    entries: &mut Vec<Retired>,
+    output: &mut Vec<u8>,
+    retired: &Retired,
+) -> Result<(), OutOfMemory>
     ensures entries { OnOk result (entries.new.items ≡ entries.old.items ++ retired.now ∷ []) }
     ensures output { OnOk result (output.new.items ≡ with_byte output.old.items retired.now.effect.put) }
 {

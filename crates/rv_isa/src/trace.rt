@@ -25,6 +25,7 @@ impl Model for Trace {
 }
 
 impl Trace {
+    ghost use Rattle.rv_isa.specs.Effects.{IsRetired};
     ghost use Rattle.rv_isa.specs.Runs.{ComesFromImage};
 
     /// The trace of these parts.
@@ -33,7 +34,11 @@ impl Trace {
         requires traced { ComesFromImage (record { entries = entries.items; output = output.items; end = end }) }
         ensures { result ≡ record { entries = entries.items; output = output.items; end = end } }
     {
-        Trace { entries, output, end }
+        Trace {
+            entries,
+            output,
+            end,
+        }
     }
 
     /// Says that it is the trace of an image. It does nothing.
@@ -53,8 +58,10 @@ impl Trace {
     /// Instruction `i`, from 0 on.
     pub fn entry(&self, i: u32) -> &Retired
         requires { i < length self.now.entries }
-        ensures { slice_get self.now.entries i ≡ Some result.now }
+        ensures entry { slice_get self.now.entries i ≡ Some result.now }
+        ensures retired { IsRetired result.now }
     {
+        self.comes_from_image();
         &self.entries[i as usize]
     }
 

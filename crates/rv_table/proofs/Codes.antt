@@ -21,7 +21,7 @@ first_code-by (r ∷ rs) w =
     ap (λ t. cond t r.code (first_code rs w)) (matches-by r.fixed w)
     ∙ ap (λ n. cond (matches_by r.fixed (opcode_of w) (funct3_of w) (funct7_of w) w) r.code n) (first_code-by rs w)
 
-code_of-by : (w opcode : ℕ) → opcode_of w ≡ opcode → code_of w ≡ code_by opcode (funct3_of w) (funct7_of w) w
+pub code_of-by : (w opcode : ℕ) → opcode_of w ≡ opcode → code_of w ≡ code_by opcode (funct3_of w) (funct7_of w) w
 unfolding code_of code_by
 code_of-by w opcode h = first_code-by rows w ∙ ap (λ o. first_by rows o (funct3_of w) (funct7_of w) w) h
 

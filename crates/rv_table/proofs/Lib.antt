@@ -1,8 +1,15 @@
 pub mod Addresses
 pub mod Codes
+pub mod Encoded
+pub mod Fields
+pub mod Formed
+pub mod Forms
 pub mod Judged
 pub mod Lanes
+pub mod Lawful
 pub mod Loads
+pub mod Rows
 pub mod Signed
+pub mod Spelled
 pub mod Stores
 pub mod WordTable

@@ -54,7 +54,7 @@ code_of-below : (w : ℕ) → code_of w < 64
 unfolding code_of
 code_of-below w = first_code-below rows w rows_coded
 
-form_code : (form : Form) (code w : ℕ) → (op_of_form form code w).code ≡ code
+pub form_code : (form : Form) (code w : ℕ) → (op_of_form form code w).code ≡ code
 form_code form code w = grind arith
 
 form_rd : (form : Form) (code w : ℕ) → (op_of_form form code w).rd < 32
@@ -83,5 +83,3 @@ decode-rs2 w = let P : Op → Type 0 = λ op. op.rs2 < 32 in subst P (decoded w)
 pub decode-zero : decode 0 ≡ illegal
 unfolding decode
 decode-zero = refl
-
-pub ruleset decoding = (decoded, decode-code, decode-rd, decode-rs1, decode-rs2)

@@ -4,4 +4,6 @@ pub mod Arithmetic
 pub mod Codes
 pub mod Effects
 pub mod Operations
+pub mod Texts
+pub mod WellFormed
 pub mod Words

@@ -1,12 +1,13 @@
 // From a word to the operation.
-ghost use Rattle.std.specs.Prelude.{◌≡◌, ◌<◌};
+ghost use Rattle.std.specs.Prelude.{◌≡◌, ◌<◌, IsTrue};
 ghost use Rattle.rv_table.specs.Codes.{code_by, code_of};
+ghost use Rattle.rv_table.specs.WellFormed.{well_formed};
 ghost use Rattle.rv_table.specs.Words.{decode};
 
 use crate::form::bits;
 use crate::{Op, form_of};
 
-#[tactic(auto, using(crate::proofs::WordTable::decoding))]
+#[tactic(auto, using(crate::proofs::Formed::decoding))]
 /// The operation of a word, by the word table. A word outside the table gives ILLEGAL, code 0 with all fields 0.
 pub fn decode(word: u32) -> Op
     ensures operation { result ≡ decode word }
@@ -14,6 +15,7 @@ pub fn decode(word: u32) -> Op
     ensures rd { result.rd < 32 }
     ensures rs1 { result.rs1 < 32 }
     ensures rs2 { result.rs2 < 32 }
+    ensures formed { IsTrue (well_formed result) }
 {
     let code = code_of(word);
     form_of(code).fields(code, word)

@@ -28,7 +28,8 @@ pub fn compute(op: &Op, a: u32, b: u32, pc: u32) -> Computed
 }
 
 #[tactic(auto, unfolding(crate::specs::Actions::value_by))]
-pub(crate) fn value_of(op: &Op, a: u32, b: u32, pc: u32) -> u32
+/// The result or the byte address accessed, 0 where there is neither.
+fn value_of(op: &Op, a: u32, b: u32, pc: u32) -> u32
     ensures { result ≡ value op.now pc a b }
 {
     match operation_of(op.code) {
@@ -44,7 +45,8 @@ pub(crate) fn value_of(op: &Op, a: u32, b: u32, pc: u32) -> u32
 }
 
 #[tactic(auto, unfolding(crate::specs::Actions::taken_by))]
-pub(crate) fn is_taken(op: &Op, a: u32, b: u32) -> bool
+/// Whether it is a jump or a branch whose comparison holds.
+fn is_taken(op: &Op, a: u32, b: u32) -> bool
     ensures { result ≡ taken op.now a b }
 {
     match operation_of(op.code) {
@@ -55,7 +57,8 @@ pub(crate) fn is_taken(op: &Op, a: u32, b: u32) -> bool
 }
 
 #[tactic(auto, unfolding(crate::specs::Actions::target_by))]
-pub(crate) fn target_of(op: &Op, a: u32, b: u32, pc: u32) -> u32
+/// Where a taken branch or jump goes, the address plus 4 for all else.
+fn target_of(op: &Op, a: u32, b: u32, pc: u32) -> u32
     ensures { result ≡ target op.now pc a b }
 {
     match operation_of(op.code) {

@@ -1,6 +1,7 @@
 // The forms of the instructions: which fields a word has, and where.
 ghost use Rattle.std.specs.Prelude.{◌≡◌, ◌<◌, ◌≤◌, ◌^◌, ◌/◌, ◌%◌, ◌+◌, ◌*◌};
 ghost use Rattle.rv_table.specs.Codes.{form_of};
+ghost use Rattle.rv_table.specs.WellFormed.{fits, is_signed};
 ghost use Rattle.rv_table.specs.Words.{immediate_b, immediate_i, immediate_j, immediate_s, immediate_u, op_of_form, sign_extended};
 
 use crate::Op;
@@ -99,6 +100,24 @@ fn signed_21(value: u32) -> u32
     } else {
         value + 0xFFE0_0000
     }
+}
+
+fn is_signed_12(value: u32) -> bool
+    ensures { result ≡ is_signed 12 value }
+{
+    value < 0x800 || value >= 0xFFFF_F800
+}
+
+fn is_signed_13(value: u32) -> bool
+    ensures { result ≡ is_signed 13 value }
+{
+    value < 0x1000 || value >= 0xFFFF_F000
+}
+
+fn is_signed_21(value: u32) -> bool
+    ensures { result ≡ is_signed 21 value }
+{
+    value < 0x10_0000 || value >= 0xFFF0_0000
 }
 
 fn immediate_u(word: u32) -> u32
@@ -204,6 +223,33 @@ impl Form {
             },
             Form::Counter => Op { rd, ..none },
             Form::NoFields => none,
+        }
+    }
+
+    #[tactic(auto, unfolding(crate::specs::WellFormed::fits))]
+    /// Whether the fields fit: registers below 32, an immediate that the form can hold, and 0 in each field that it
+    /// doesn't have.
+    pub fn fits(self, op: &Op) -> bool
+        ensures { result ≡ fits self op.now }
+    {
+        let Op {
+            rd,
+            rs1,
+            rs2,
+            imm,
+            ..
+        } = *op;
+        match self {
+            Form::U => rd < 32 && rs1 == 0 && rs2 == 0 && imm % 0x1000 == 0,
+            Form::J => rd < 32 && rs1 == 0 && rs2 == 0 && imm % 2 == 0 && is_signed_21(imm),
+            Form::I => rd < 32 && rs1 < 32 && rs2 == 0 && is_signed_12(imm),
+            Form::B => rd == 0 && rs1 < 32 && rs2 < 32 && imm % 2 == 0 && is_signed_13(imm),
+            Form::S => rd == 0 && rs1 < 32 && rs2 < 32 && is_signed_12(imm),
+            Form::Shift => rd < 32 && rs1 < 32 && rs2 == 0 && imm < 32,
+            Form::R => rd < 32 && rs1 < 32 && rs2 < 32 && imm == 0,
+            Form::Call => rd == 0 && rs1 == 17 && rs2 == 10 && imm == 0,
+            Form::Counter => rd < 32 && rs1 == 0 && rs2 == 0 && imm == 0,
+            Form::NoFields => rd == 0 && rs1 == 0 && rs2 == 0 && imm == 0,
         }
     }
 }

@@ -1,26 +1,35 @@
 // The instructions of RV32IM with the four counter reads: the word table, the arithmetic, and what an
 // instruction asks for, from its operands alone.
 //
-// `operation` names what a code means, `op` is a decoded instruction, `arithmetic` and `execution` are what it computes,
-// `action` is what it does besides going on, `access` which bytes of memory that concerns.
+// `operation` names what a code means and `op` is a decoded instruction. `form` has the forms of the words,
+// `decoding` leads from a word to the operation, `encoding` back, and `spelling` is the assembler's text.
+// `arithmetic` and `execution` compute results and targets, `action` is what an instruction does besides going on,
+// and `access` which bytes of memory that concerns.
 #![tactic(auto)]
 
 mod access;
 mod action;
 mod arithmetic;
 mod decoding;
+mod encoding;
 mod execution;
 mod form;
 mod op;
 mod operation;
+mod spelling;
 
 pub use access::{load_value, store_word};
 pub use action::{Access, Action, asked, is_clocked, is_counter, next_address, with_counter};
 pub use arithmetic::{alu, holds};
 pub use decoding::decode;
+pub use encoding::{encode, has_row, well_formed};
 pub use execution::{Computed, compute};
 pub use form::{Form, form_of};
 pub use op::Op;
 pub use operation::{
     AluKind, BranchKind, CounterKind, LoadKind, Operation, StoreKind, operation_of,
 };
+pub use spelling::{OutOfMemory, text};
+
+#[cfg(test)]
+mod tests;

@@ -1,0 +1,9 @@
+// Worked rows of the whole tool: words and files, and the status and texts that they give. There is nothing else here.
+#![tactic(auto)]
+
+#[cfg(test)]
+mod faults;
+#[cfg(test)]
+mod images;
+#[cfg(test)]
+mod rows;

@@ -1,0 +1,4 @@
+mod Numerals
+mod Retold
+mod ByStatus
+mod Runs

@@ -1,0 +1,5 @@
+use Rattle.avf_tool.proofs.ByStatus.{by_status}
+use Rattle.avf_tool.proofs.top.run_tool.Goals as goal
+
+pub returns-clause-by_status : goal.returns-clause-by_status
+returns-clause-by_status g c = by_status _ _ _ _ _ _ c.end.ensures.ends

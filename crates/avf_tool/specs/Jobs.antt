@@ -1,0 +1,11 @@
+-- A command of the program, seen as a job.
+use Rattle.avf_tool.specs.declared.command.ImageRun.{ImageRun as RunWords}
+use Rattle.avf_tool.specs.declared.command.Command.{Command}
+use Rattle.avf_tool.specs.declared.command.Command.TheVariants.{Run as run_command}
+use Rattle.avf_tool.specs.Words.{ImageRun, Job, Run}
+
+abbrev pub image_run_of : RunWords → ImageRun
+image_run_of r = record { image = r.image.now; budget = r.budget }
+
+abbrev pub job_of : Command → Job
+job_of (run_command r) = Run (image_run_of r)

@@ -1,0 +1,16 @@
+// The tool: reads the words of a command, works out its text, and writes it or says why there is none.
+#![tactic(auto)]
+
+// The words of a command.
+mod command;
+mod numbers;
+
+// What a command answers.
+mod perform;
+mod stages;
+mod texts;
+
+// The top call.
+mod top;
+
+pub use top::run_tool;

@@ -1,0 +1,36 @@
+-- The laws of a flip for ID/EX.
+use Rattle.std.specs.Prelude.{◌≡◌, ℕ, Bool, List, slice_index}
+use Rattle.std.proofs.Common.{ap, sym, ◌∙◌}
+use Rattle.bit_field.specs.Fields.{flip_row}
+use Rattle.bit_field.specs.Laws.{FlipLaws}
+use Rattle.bit_field.proofs.Rows.{laws_by_row, number_of-flip_bool, is_one, is_one-number_of}
+use Rattle.pipe_latch.specs.Latches.{DecodedLatch}
+use Rattle.pipe_latch.specs.DecodedBits.{widths, values, IsFit, bit_of, flipped}
+
+-- the latch whose fields have these values
+abbrev pub from_values : List ℕ → DecodedLatch
+from_values vs =
+    record {
+      valid = is_one (slice_index vs 0);
+      pc = slice_index vs 1;
+      op = slice_index vs 2;
+      rd = slice_index vs 3;
+      rs1 = slice_index vs 4;
+      rs2 = slice_index vs 5;
+      a = slice_index vs 6;
+      b = slice_index vs 7;
+      imm = slice_index vs 8;
+      count = slice_index vs 9;
+    }
+
+flips : (d : DecodedLatch) (k : ℕ) → values (flipped d k) ≡ flip_row 0 widths (values d) k
+flips d k = let e = number_of-flip_bool 0 d.valid k in cc
+
+from_values-values : (d : DecodedLatch) → from_values (values d) ≡ d
+from_values-values d = ap (λ (v : Bool). record d { valid = v }) (is_one-number_of d.valid)
+
+same_values : (d e : DecodedLatch) → values d ≡ values e → d ≡ e
+same_values d e same = sym (from_values-values d) ∙ ap from_values same ∙ from_values-values e
+
+pub laws : FlipLaws IsFit (λ _. 153) bit_of flipped
+laws = laws_by_row widths values flipped flips same_values

@@ -1,0 +1,229 @@
+// The latch EX/MEM.
+ghost use Rattle.std.specs.Prelude.{◌≡◌, ◌<◌};
+ghost use Rattle.rv_table.specs.Effects.{written_register};
+ghost use Rattle.pipe_latch.specs.LatchedActions.{latch_of, trap_number};
+ghost use Rattle.pipe_latch.specs.LatchedActions as spec;
+
+use bit_field::{Struck, bit_at, flip_bit, flip_u8, flip_u32};
+use rv_table::{Action, LoadKind, StoreKind};
+use std::marker::Model;
+
+/// The latch EX/MEM: what execution asks of the memory stage.
+#[derive(Clone, Copy, PartialEq, Eq, Debug)]
+pub struct ExMem {
+    /// Whether it holds an instruction.
+    pub valid: bool,
+    /// What is to be done, below 32: 0 write back, 1 LB, 2 LH, 3 LW, 4 LBU, 5 LHU, 6 SB, 7 SH, 8 SW, 9 PUT, 10 EXIT,
+    /// 11 TRAP; 12 to 31 act as 0.
+    pub kind: u8,
+    /// The register to write, below 32; 0 is none.
+    pub rd: u8,
+    /// The result, or the byte address of a load or store.
+    pub x: u32,
+    /// The value to store.
+    pub y: u32,
+    /// The trap's number, below 16.
+    pub cause: u8,
+}
+
+impl Model for ExMem {
+    ghost use Rattle.std.specs.Prelude.{◌^◌, ◌<◌};
+    ghost use Rattle.pipe_latch.specs.Latches.{ExecutedLatch};
+
+    ghost Value = { ExecutedLatch };
+
+    ghost view = { λ d. record { valid = d.valid; kind = d.kind; rd = d.rd; x = d.x; y = d.y; cause = d.cause } };
+
+    ghost invariant = { λ d. (d.kind < 2 ^ 5) × (d.rd < 2 ^ 5) × (d.cause < 2 ^ 4) };
+
+    ghost inverse = { λ d. record { valid = d.valid; kind = d.kind; rd = d.rd; x = d.x; y = d.y; cause = d.cause } };
+}
+
+impl Struck for ExMem {
+    ghost use Rattle.pipe_latch.specs.ExecutedBits as executed_bits;
+    ghost use Rattle.pipe_latch.specs.ExecutedLaws as executed_laws;
+
+    ghost IsFit = { executed_bits.IsFit };
+
+    ghost bit_count = { λ _. 79 };
+
+    ghost bit_of = { executed_bits.bit_of };
+
+    ghost flipped = { executed_bits.flipped };
+
+    ghost laws = { executed_laws.laws };
+
+    fn bits(&self) -> u32 {
+        79
+    }
+
+    fn bit(&self, k: u32) -> bool {
+        if k < 1 {
+            self.valid
+        } else if k < 6 {
+            bit_at(u32::from(self.kind), k - 1)
+        } else if k < 11 {
+            bit_at(u32::from(self.rd), k - 6)
+        } else if k < 43 {
+            bit_at(self.x, k - 11)
+        } else if k < 75 {
+            bit_at(self.y, k - 43)
+        } else {
+            bit_at(u32::from(self.cause), k - 75)
+        }
+    }
+
+    fn flip(&mut self, k: u32) {
+        flip_bit(&mut self.valid, 0, k);
+        flip_u8(&mut self.kind, 1, 5, k);
+        flip_u8(&mut self.rd, 6, 5, k);
+        flip_u32(&mut self.x, 11, 32, k);
+        flip_u32(&mut self.y, 43, 32, k);
+        flip_u8(&mut self.cause, 75, 4, k);
+    }
+
+    fn fits(&self) {
+        let _x = self.x;
+        let _y = self.y;
+    }
+}
+
+impl ExMem {
+    ghost use Rattle.pipe_latch.specs.Latches.{no_executed};
+    ghost use Rattle.pipe_latch.specs.LatchedActions.{action_of};
+
+    /// The empty latch: all zero.
+    pub fn empty() -> ExMem
+        ensures { result ≡ no_executed }
+    {
+        ExMem {
+            valid: false,
+            kind: 0,
+            rd: 0,
+            x: 0,
+            y: 0,
+            cause: 0,
+        }
+    }
+
+    #[tactic(auto, unfolding(crate::specs::LatchedActions::action_of))]
+    /// What the memory stage does with the latch, whatever it holds.
+    pub fn action(&self) -> Action
+        ensures action { result ≡ action_of self.now }
+        ensures register { written_register result < 32 }
+        ensures cause { trap_number result < 16 }
+    {
+        if !self.valid {
+            return Action::Nothing;
+        }
+        match self.kind {
+            1 => self.loads(LoadKind::Lb),
+            2 => self.loads(LoadKind::Lh),
+            3 => self.loads(LoadKind::Lw),
+            4 => self.loads(LoadKind::Lbu),
+            5 => self.loads(LoadKind::Lhu),
+            6 => self.stores(StoreKind::Sb),
+            7 => self.stores(StoreKind::Sh),
+            8 => self.stores(StoreKind::Sw),
+            9 => Action::Puts(self.x),
+            10 => Action::Exits(self.x),
+            11 => Action::Traps(self.cause),
+            _ => Action::Writes {
+                rd: self.rd,
+                value: self.x,
+            },
+        }
+    }
+
+    fn loads(&self, kind: LoadKind) -> Action
+        ensures { result ≡ Action.Loads kind self.now.rd self.now.x }
+    {
+        Action::Loads {
+            kind,
+            rd: self.rd,
+            place: self.x,
+        }
+    }
+
+    fn stores(&self, kind: StoreKind) -> Action
+        ensures { result ≡ Action.Stores kind self.now.x self.now.y }
+    {
+        Action::Stores {
+            kind,
+            place: self.x,
+            value: self.y,
+        }
+    }
+}
+
+#[tactic(auto, unfolding(crate::specs::LatchedActions::latch_of))]
+/// The latch that execution writes for an action. All fields that the action doesn't name are 0.
+pub fn latch_for(action: &Action) -> ExMem
+    requires register { written_register action.now < 32 }
+    requires cause { trap_number action.now < 16 }
+    ensures { result ≡ latch_of action.now }
+{
+    let written = ExMem {
+        valid: true,
+        ..ExMem::empty()
+    };
+    match *action {
+        Action::Nothing => ExMem::empty(),
+        Action::Writes { rd, value } => ExMem {
+            rd,
+            x: value,
+            ..written
+        },
+        Action::Loads { kind, rd, place } => ExMem {
+            kind: kind_of_load(kind),
+            rd,
+            x: place,
+            ..written
+        },
+        Action::Stores { kind, place, value } => ExMem {
+            kind: kind_of_store(kind),
+            x: place,
+            y: value,
+            ..written
+        },
+        Action::Puts(value) => ExMem {
+            kind: 9,
+            x: value,
+            ..written
+        },
+        Action::Exits(value) => ExMem {
+            kind: 10,
+            x: value,
+            ..written
+        },
+        Action::Traps(cause) => ExMem {
+            kind: 11,
+            cause,
+            ..written
+        },
+    }
+}
+
+fn kind_of_load(kind: LoadKind) -> u8
+    ensures kind { result ≡ spec.kind_of_load kind }
+    ensures range { result < 32 }
+{
+    match kind {
+        LoadKind::Lb => 1,
+        LoadKind::Lh => 2,
+        LoadKind::Lw => 3,
+        LoadKind::Lbu => 4,
+        LoadKind::Lhu => 5,
+    }
+}
+
+fn kind_of_store(kind: StoreKind) -> u8
+    ensures kind { result ≡ spec.kind_of_store kind }
+    ensures range { result < 32 }
+{
+    match kind {
+        StoreKind::Sb => 6,
+        StoreKind::Sh => 7,
+        StoreKind::Sw => 8,
+    }
+}

@@ -1,0 +1,5 @@
+pub mod Bits
+pub mod Covers
+pub mod Entry
+pub mod Laws
+pub mod Pending

@@ -1,0 +1,20 @@
+// The store buffer: four slots for stores that memory has taken over and the cache hasn't yet.
+//
+// - pending: a slot, and whether it holds a lane of a word;
+// - cover: what a load finds in the buffer;
+// - buffer: the buffer, in which stores wait from the oldest to the youngest.
+//
+// A strike may leave any bits in the slots. A slot whose mask isn't 0 holds a pending store, whatever its other bits are,
+// and the pending stores are those slots in their order.
+#![tactic(auto)]
+
+mod buffer;
+mod cover;
+mod pending;
+
+pub use buffer::StoreBuf;
+pub use cover::Cover;
+pub use pending::Pending;
+
+#[cfg(test)]
+mod tests;

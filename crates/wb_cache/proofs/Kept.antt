@@ -1,0 +1,104 @@
+-- Every call keeps the lengths of the arrays and the widths of bytes and tags.
+use Rattle.std.proofs.Common.{◌≡◌, ◌⊎◌, inl, inr, ℕ, zero, suc, ◌+◌, ◌-◌, ◌*◌, ◌/◌, ◌%◌, ◌^◌, ◌<◌, ◌≤◌, Bool, true, false, cond, List, length, arith, ap, refl, sym, ◌∙◌, ◌++◌, take, drop}
+use Rattle.std.proofs.Math.ListN.{length-set, set}
+use Rattle.std.specs.Int.{w32, to_le_bytes}
+use Rattle.std.specs.List.{All, replace_range}
+use Rattle.std.specs.Prelude.{Option, Some, None, slice_range, replicate, slice_index, slice_index_or}
+use Rattle.std.proofs.lemmas.List.Elements.{All-set, All-append, All-take, All-drop, All-replicate}
+use Rattle.bit_field.proofs.CacheShape.{tag_below}
+use Rattle.bit_field.specs.Shapes.{tag_bits, slots as slot_count}
+use Rattle.elf_load.specs.Image.{LoadedImage, IsImage, in_ram}
+use Rattle.wb_cache.specs.Access.{put, put_word, put_lane, touched, has_lane, lane_byte, read, written, found, on_hit}
+use Rattle.wb_cache.specs.Contents.{Contents, IsSized, IsContents, slots, slot_of, no_slot}
+use Rattle.wb_cache.specs.Lookup.{set_of, tag_of}
+use Rattle.wb_cache.specs.Refill.{filled, refilled, memory_refilled, line_bytes, place_of, way_for}
+use Rattle.wb_cache.specs.Replacement.{used}
+use Rattle.wb_cache.proofs.Calls.{length-after_refill}
+use Rattle.wb_cache.proofs.Lengths.{sized-same, length-used, length-put_word, length-replace}
+use Rattle.wb_cache.proofs.Ram.{length-line_bytes}
+use Rattle.wb_cache.proofs.Sizes.{set_below, slot_below}
+use Rattle.wb_cache.proofs.Victims.{victim-below}
+
+abbrev AreBytes : List ℕ → Type 0
+AreBytes xs = All (λ b. b < 2 ^ 8) xs
+
+lane_byte-below : (value lane : ℕ) → lane_byte value lane < 2 ^ 8
+lane_byte-below value zero = omega arith
+lane_byte-below value (suc zero) = omega arith
+lane_byte-below value (suc (suc zero)) = omega arith
+lane_byte-below value (suc (suc (suc zero))) = omega arith
+lane_byte-below value (suc (suc (suc (suc lane)))) = omega arith
+
+lane_kept : (b : Bool) (bytes : List ℕ) (i v : ℕ) → v < 2 ^ 8 → AreBytes bytes → AreBytes (cond b (set bytes i v) bytes)
+lane_kept true bytes i v h are = All-set (λ b. b < 2 ^ 8) bytes i v h are
+lane_kept false bytes i v h are = are
+
+put_lane-kept : (place mask value lane : ℕ) (bytes : List ℕ) → AreBytes bytes → AreBytes (put_lane place mask value lane bytes)
+put_lane-kept place mask value lane bytes are = lane_kept (has_lane mask lane) bytes (place + lane) (lane_byte value lane) (lane_byte-below value lane) are
+
+put_word-kept : (place mask value : ℕ) (bytes : List ℕ) → AreBytes bytes → AreBytes (put_word place mask value bytes)
+unfolding put_word
+put_word-kept place mask value bytes are =
+    put_lane-kept place mask value 3 _ (put_lane-kept place mask value 2 _ (put_lane-kept place mask value 1 _ (put_lane-kept place mask value 0 bytes are)))
+
+line_bytes-kept : (image : LoadedImage) (line : ℕ) (memory : List ℕ) → AreBytes memory → AreBytes (line_bytes image line memory)
+unfolding line_bytes
+line_bytes-kept image line memory are = go (in_ram image (16 * line))
+  where
+    go : (b : Bool) → AreBytes (cond b (slice_range memory (place_of image line) (place_of image line + 16)) (replicate 16 0))
+    go true = All-take (λ b. b < 2 ^ 8) (place_of image line + 16 - place_of image line) (drop (place_of image line) memory) (All-drop (λ b. b < 2 ^ 8) (place_of image line) memory are)
+    go false = All-replicate (λ b. b < 2 ^ 8) 16 0 (omega arith)
+
+range-kept : (xs ys : List ℕ) (i j : ℕ) → AreBytes xs → AreBytes ys → AreBytes (replace_range xs i j ys)
+range-kept xs ys i j h l =
+    All-append (λ b. b < 2 ^ 8) (take i xs ++ ys) (drop j xs)
+    (All-append (λ b. b < 2 ^ 8) (take i xs) ys (All-take (λ b. b < 2 ^ 8) i xs h) l)
+    (All-drop (λ b. b < 2 ^ 8) j xs h)
+
+touched-kept : (c : Contents) (set way : ℕ) → IsContents c → IsContents (touched set way c)
+touched-kept c set way is = record {
+  sized = sized-same c _ is.sized refl refl refl refl refl (length-used c.shape set way c.nodes);
+  bytes = is.bytes;
+  widths = is.widths;
+}
+
+put-kept : (c : Contents) (set way word mask value : ℕ) → IsContents c → IsContents (put set way word mask value c)
+unfolding put
+put-kept c set way word mask value is = record {
+  sized = sized-same c _ is.sized refl (length-put_word _ mask value c.bytes) refl refl (length-set c.dirty _ _) (length-used c.shape set way c.nodes);
+  bytes = put_word-kept _ mask value c.bytes is.bytes;
+  widths = is.widths;
+}
+
+filled-kept : (image : LoadedImage) (line way : ℕ) (memory : List ℕ) (c : Contents) → IsImage image → length memory ≡ length image.ram → AreBytes memory → line < 2 ^ 28 → way < c.shape.ways → IsContents c → IsContents (filled image line way memory c)
+unfolding filled
+filled-kept image line way memory c is_image long are l w is =
+    let below : slot_of c.shape (set_of c.shape line) way < slot_count c.shape = slot_below c.shape (set_of c.shape line) way is.sized.shape (set_below c.shape line is.sized.shape) w in
+    record {
+      sized = sized-same c _ is.sized refl (length-replace c.bytes (line_bytes image line memory) _ _ (omega (arith, length-line_bytes image line memory is_image long)) (omega (arith, is.sized.bytes))) (length-set c.tags _ _) (length-set c.valid _ _) (length-set c.dirty _ _) (length-used c.shape (set_of c.shape line) way c.nodes);
+      bytes = range-kept c.bytes (line_bytes image line memory) _ _ is.bytes (line_bytes-kept image line memory are);
+      widths = All-set (λ t. t < 2 ^ tag_bits c.shape) c.tags _ (tag_of c.shape line) (tag_below c.shape line is.sized.shape l) is.widths;
+    }
+
+-- ---- the calls
+
+pub contents-after_read : (c : Contents) (line : ℕ) → IsContents c → IsContents (read line c)
+unfolding read
+contents-after_read c line is = go (found c line)
+  where
+    go : (way : Option ℕ) → IsContents (on_hit way (λ w. touched (set_of c.shape line) w c) c)
+    go (Some way) = touched-kept c (set_of c.shape line) way is
+    go None = is
+
+pub contents-after_write : (c : Contents) (line word mask value : ℕ) → IsContents c → IsContents (written line word mask value c)
+unfolding written
+contents-after_write c line word mask value is = go (found c line)
+  where
+    go : (way : Option ℕ) → IsContents (on_hit way (λ w. put (set_of c.shape line) w word mask value c) c)
+    go (Some way) = put-kept c (set_of c.shape line) way word mask value is
+    go None = is
+
+pub contents-after_refill : (image : LoadedImage) (line : ℕ) (memory : List ℕ) (c : Contents) → IsImage image → length memory ≡ length image.ram → AreBytes (memory_refilled image line c memory) → line < 2 ^ 28 → IsContents c → IsContents (refilled image line memory c)
+unfolding refilled
+contents-after_refill image line memory c is_image long are l is =
+    filled-kept image line (way_for c line) (memory_refilled image line c memory) c is_image (length-after_refill image line memory c is_image long is.sized) are l (victim-below c.shape (slots c) c.nodes (set_of c.shape line) is.sized.shape) is
