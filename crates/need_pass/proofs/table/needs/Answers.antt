@@ -18,7 +18,7 @@ loop-at-preserved c =
     let back : at + 1 ≡ c.loop-at.at = omega arith in
     let passed : IsPassed entries before bytes (at + 1) = rw (c.deref_mut.ensures.value, back) c.loop-at.invariant in
     let count : length after ≡ c.loop-at.registers.len = omega (arith, c.step_back.auto.registers, ap length c.deref_mut.ensures.value, c.loop-at.registers.ok.0) in
-    rw (take_at after (drop (length after) c.loop-at.registers.items) c.loop-at.registers.len count) (passed_more entries before after bytes c.step_back.new.bytes.entries at c.entry.result.now c.entry.ensures c.step_back.auto.registers passed c.in_ok-step_back.ensures)
+    rw (take_at after (drop (length after) c.loop-at.registers.items) c.loop-at.registers.len count) (passed_more entries before after bytes c.step_back.new.bytes.entries at c.entry.result.now c.entry.ensures.entry c.step_back.auto.registers passed c.in_ok-step_back.ensures)
 
 pub returns-clause-exact : goal.returns-clause-exact
 returns-clause-exact c =
