@@ -31,8 +31,8 @@ link_reads : (i : Retired) (r k : ℕ) (q : Place) → 0 < r → Link i (Registe
 unfolding Link
 link_reads i r k (Register s j) pos link =
     elim link [
-      inl (w, e, f) ↦ inr (ap (writes i) e ∙ w, ap (λ x. Register x j) (sym e) ∙ ap (Register r) (sym f))
-    | inr (w, operand) ↦ inl (reads_operand i r pos (elim operand [ inl a ↦ inl a.0 | inr b ↦ inr b.0 ]))
+      | inl (w, e, f) ↦ inr (ap (writes i) e ∙ w, ap (λ x. Register x j) (sym e) ∙ ap (Register r) (sym f))
+      | inr (w, operand) ↦ inl (reads_operand i r pos (elim operand [ inl a ↦ inl a.0 | inr b ↦ inr b.0 ]))
     ]
 link_reads i r k (Byte p j) pos link = inl (reads_operand i r pos (inr link.1))
 
@@ -50,12 +50,12 @@ unread r k (i ∷ later) (c ∷ classes) l e n =
     let parts = no_readers (reads i r) (writes i r) c (register_readers r later classes) e in
     let pos : 0 < r = n.0.0 in
     elim n.1 [
-      inl root ↦ false≢true (sym parts.0 ∙ root_reads i r k pos root)
-    | inr (q, link, m) ↦
-        elim (link_reads i r k q pos link) [
-          inl read ↦ false≢true (sym parts.0 ∙ read)
-        | inr (kept, same) ↦ unread r k later classes (omega arith) (parts.1 kept) (subst (IsNeeded later) same m)
-        ]
+      | inl root ↦ false≢true (sym parts.0 ∙ root_reads i r k pos root)
+      | inr (q, link, m) ↦
+          elim (link_reads i r k q pos link) [
+            | inl read ↦ false≢true (sym parts.0 ∙ read)
+            | inr (kept, same) ↦ unread r k later classes (omega arith) (parts.1 kept) (subst (IsNeeded later) same m)
+          ]
     ]
 
 -- ---- what the class FddReg says
@@ -110,6 +110,6 @@ unread_is_unneeded entries needs is i r k entry found class written pos below bi
     let judged : class_of entry later (classes_of later) ≡ FddReg = cc in
     let none : register_readers r later (classes_of later) ≡ [] = class_unread entry later (classes_of later) r judged written in
     elim (cases_eq (bit_at (reg_need needs r (i + 1)) k) 1) [
-      inl one ↦ absurd (unread r k later (classes_of later) (classes-length later) none ((is.register r k (i + 1) pos below bit).0 one))
-    | inr other ↦ omega (arith, bit_at-lt (reg_need needs r (i + 1)) k)
+      | inl one ↦ absurd (unread r k later (classes_of later) (classes-length later) none ((is.register r k (i + 1) pos below bit).0 one))
+      | inr other ↦ omega (arith, bit_at-lt (reg_need needs r (i + 1)) k)
     ]

@@ -70,11 +70,7 @@ fn unread(alloc: Global) -> Result<Vec<Readers>, OutOfMemory>
 
 /// The classes of a run's instructions, by one walk from the last to the first. `needs` are those of the same run; the clause `law`
 /// ties the two.
-pub fn classify(
-    alloc: Global,
-    trace: &Trace,
-    needs: &NeedTable,
-) -> Result<DeadTable, OutOfMemory>
+pub fn classify(alloc: Global, trace: &Trace, needs: &NeedTable) -> Result<DeadTable, OutOfMemory>
     requires { IsNeedOf trace.now.entries needs.now }
     ensures exact { IfOk result (λ t. t ≡ classes_of trace.now.entries) }
     ensures length { IfOk result (λ t. length t ≡ length trace.now.entries) }

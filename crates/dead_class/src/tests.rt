@@ -70,7 +70,13 @@ struct Row {
 const ROWS: [Row; 4] = [
     // addi t0, zero, 5 twice: the first is overwritten unread
     Row {
-        words: &[0x0050_0293, 0x0050_0293, 0x0002_8513, 0x05D0_0893, 0x0000_0073],
+        words: &[
+            0x0050_0293,
+            0x0050_0293,
+            0x0002_8513,
+            0x05D0_0893,
+            0x0000_0073,
+        ],
         classes: &[
             DeadClass::FddReg,
             DeadClass::Needed,
@@ -102,7 +108,14 @@ const ROWS: [Row; 4] = [
     },
     // lui s0, 0x80; sb t0, 0(s0); lbu t1, 0(s0); sb t0, 0(s0): all that the address register does is dead
     Row {
-        words: &[0x0008_0437, 0x0054_0023, 0x0004_4303, 0x0054_0023, 0x05D0_0893, 0x0000_0073],
+        words: &[
+            0x0008_0437,
+            0x0054_0023,
+            0x0004_4303,
+            0x0054_0023,
+            0x05D0_0893,
+            0x0000_0073,
+        ],
         classes: &[
             DeadClass::TddReg,
             DeadClass::TddMem,
@@ -114,7 +127,14 @@ const ROWS: [Row; 4] = [
     },
     // addi zero, zero, 0; fence; lui s0, 0x80; lbu zero, 0(s0): a load into register 0 is needed
     Row {
-        words: &[0x0000_0013, 0x0FF0_000F, 0x0008_0437, 0x0004_4003, 0x05D0_0893, 0x0000_0073],
+        words: &[
+            0x0000_0013,
+            0x0FF0_000F,
+            0x0008_0437,
+            0x0004_4003,
+            0x05D0_0893,
+            0x0000_0073,
+        ],
         classes: &[
             DeadClass::Nop,
             DeadClass::Nop,

@@ -55,8 +55,8 @@ writes_is image x f r pos = go (eqb (written_register x) 0) refl
 put_reg-at : (rd v r : ℕ) (f : ℕ → ℕ) → 0 < r → put_reg rd v f r ≡ cond (eqb r rd) v (f r)
 put_reg-at rd v r f pos =
     elim (cases_eq rd 0) [
-      inl e ↦ rw (e, not_zero r (λ z. omega arith)) refl
-    | inr n ↦ rw (not_zero rd n) refl
+      | inl e ↦ rw (e, not_zero r (λ z. omega arith)) refl
+      | inr n ↦ rw (not_zero rd n) refl
     ]
 
 -- a loaded byte is below 2^32
@@ -130,7 +130,6 @@ store_recorded image at = refl
 
 -- The two states, of which s is recorded, and the instruction that both are at.
 module _ (image : LoadedImage) (t : List Retired) (s u : State) (is : IsImage image) (ws : IsWords s) (wu : IsWords u) (agree : Agrees (retired_at image s ∷ t) s u) where
-
   fields : IsFields (op_at image s.pc)
   fields = fetched_fields image is s.pc
 
@@ -207,9 +206,11 @@ module _ (image : LoadedImage) (t : List Retired) (s u : State) (is : IsImage im
     where
       test : writes (retired_at image s) r ≡ eqb r (written_register (next_action image s))
       test = ap (λ x. is_register x r) (write_recorded image s) ∙ writes_is image (next_action image s) s.memory r p
+
       by_test : (b : Bool) → eqb r (written_register (next_action image s)) ≡ b → bit_at (cond b (given image (next_action image s) s.memory) (s.registers r)) j ≡ bit_at (cond b (given image (next_action image u) u.memory) (u.registers r)) j
       by_test true e = written r j p q l e (test ∙ e) n
       by_test false e = linked (Register r j) (Register r j) (p, q, l) (kept_link r j (test ∙ e)) n
+
       bits : bit_at (put_reg (written_register (next_action image s)) (given image (next_action image s) s.memory) s.registers r) j ≡ bit_at (put_reg (written_register (next_action image u)) (given image (next_action image u) u.memory) u.registers r) j
       bits =
           ap (λ v. bit_at v j) (put_reg-at (written_register (next_action image s)) (given image (next_action image s) s.memory) r s.registers p)

@@ -63,16 +63,17 @@ each_of_four P a b c d p q r s (suc (suc (suc (suc n)))) l = absurd (omega arith
 
 -- the mask of an access' bytes, from those of its first four
 pub accessed_bits : (f g : ℕ → ℕ) (addr size word : ℕ) → ((n j : ℕ) → n < 4 → j < 8 → (bit_at (g n) j ≡ 1) ↔ ((n < size) × (addr + n < 2 ^ 32) × (bit_at (f (addr + n)) j ≡ 1))) → ((n k : ℕ) → n < 4 → k < 8 → bit_at word (8 * n + k) ≡ bit_at (g n) k) → IsMaskOf word (λ k. (p j : ℕ) × (p < 2 ^ 32) × (j < 8) × (has_byte (Some (addr, size)) p ≡ true) × (k ≡ 8 * (p - addr) + j) × (bit_at (f p) j ≡ 1))
-accessed_bits f g addr size word bytes bits k l =
-    (λ one.
-        let e : 8 * (k / 8) + k % 8 ≡ k = omega arith in
-        let b : bit_at (g (k / 8)) (k % 8) ≡ 1 = sym (bits (k / 8) (k % 8) (omega arith) (omega arith)) ∙ rw e one in
-        let (s, t, o) = (bytes (k / 8) (k % 8) (omega arith) (omega arith)).0 b in
-        (addr + k / 8, k % 8, t, omega arith, grind (arith, nat_tests), omega arith, o),
-     λ (p, j, b, m, h, e, o).
-        let i : addr ≤ p = grind (arith, nat_tests) in
-        let t : p < addr + size = grind (arith, nat_tests) in
-        let x : addr + (p - addr) ≡ p = omega arith in
-        let y : bit_at (f (addr + (p - addr))) j ≡ 1 = rw x o in
-        let z : bit_at (g (p - addr)) j ≡ 1 = (bytes (p - addr) j (omega arith) m).1 (omega arith, omega arith, y) in
-        rw e (bits (p - addr) j (omega arith) m ∙ z))
+accessed_bits f g addr size word bytes bits k l = (
+  λ one.
+      let e : 8 * (k / 8) + k % 8 ≡ k = omega arith in
+      let b : bit_at (g (k / 8)) (k % 8) ≡ 1 = sym (bits (k / 8) (k % 8) (omega arith) (omega arith)) ∙ rw e one in
+      let (s, t, o) = (bytes (k / 8) (k % 8) (omega arith) (omega arith)).0 b in
+      (addr + k / 8, k % 8, t, omega arith, grind (arith, nat_tests), omega arith, o),
+  λ (p, j, b, m, h, e, o).
+      let i : addr ≤ p = grind (arith, nat_tests) in
+      let t : p < addr + size = grind (arith, nat_tests) in
+      let x : addr + (p - addr) ≡ p = omega arith in
+      let y : bit_at (f (addr + (p - addr))) j ≡ 1 = rw x o in
+      let z : bit_at (g (p - addr)) j ≡ 1 = (bytes (p - addr) j (omega arith) m).1 (omega arith, omega arith, y) in
+      rw e (bits (p - addr) j (omega arith) m ∙ z),
+)

@@ -47,6 +47,6 @@ fetched_fields image is pc =
     let at : ℕ = 4 * pc - image.base in
     let below : little_number 4 (drop at image.ram) < 2 ^ 32 = rw (word_of_list image.ram at) (word_below (λ i. slice_index image.ram (at + i)) (λ i. is.bytes (at + i))) in
     elim (word_executable image pc) as (λ t. IsFields (op_of_word (cond t (Some (little_number 4 (drop at image.ram))) None))) [
-      true ↦ decode_fields (little_number 4 (drop at image.ram)) below
-    | false ↦ record { rs1 = lit< tt; rs2 = lit< tt; imm = lit< tt }
+      | true ↦ decode_fields (little_number 4 (drop at image.ram)) below
+      | false ↦ record { rs1 = lit< tt; rs2 = lit< tt; imm = lit< tt }
     ]

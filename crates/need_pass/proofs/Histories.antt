@@ -11,15 +11,15 @@ use Rattle.need_pass.specs.declared.history.Change.{Change}
 pub falling_from : (xs : List Change) (i : ℕ) → IsFalling xs → IsPartitionedBy (λ c. leb i c.at) xs
 falling_from xs i falls a b d l h t =
     elim (cases_lt a b) [
-      inl m ↦ let f : (get_or xs b d).at < (get_or xs a d).at = falls a b d m h in grind (arith, nat_tests)
-    | inr m ↦ let e : a ≡ b = omega arith in rw e t
+      | inl m ↦ let f : (get_or xs b d).at < (get_or xs a d).at = falls a b d m h in grind (arith, nat_tests)
+      | inr m ↦ let e : a ≡ b = omega arith in rw e t
     ]
 
 pub falling_above : (xs : List Change) (i : ℕ) → IsFalling xs → IsPartitionedBy (λ c. ltb i c.at) xs
 falling_above xs i falls a b d l h t =
     elim (cases_lt a b) [
-      inl m ↦ let f : (get_or xs b d).at < (get_or xs a d).at = falls a b d m h in grind (arith, nat_tests)
-    | inr m ↦ let e : a ≡ b = omega arith in rw e t
+      | inl m ↦ let f : (get_or xs b d).at < (get_or xs a d).at = falls a b d m h in grind (arith, nat_tests)
+      | inr m ↦ let e : a ≡ b = omega arith in rw e t
     ]
 
 -- the mask where no change stands at i or later
@@ -83,11 +83,11 @@ falling_take xs n l falls i j d m h =
 pub falling_push : (xs : List Change) (c : Change) → AllWithin (λ x. ltb c.at x.at ≡ true) xs 0 (length xs) → IsFalling xs → IsFalling (xs ++ c ∷ [])
 falling_push xs c above falls i j d m h =
     elim (cases_lt j (length xs)) [
-      inl l ↦ rw (get_or_append_left xs (c ∷ []) d j l, get_or_append_left xs (c ∷ []) d i (omega arith)) (falls i j d m l)
-    | inr l ↦
-        let e : length xs ≡ j = omega (arith, length_push xs c) in
-        let a : ltb c.at (get_or xs i d).at ≡ true = above i d (omega arith) (omega arith) in
-        rw (get_or_push xs c d j e, get_or_append_left xs (c ∷ []) d i (omega arith)) (grind (arith, nat_tests))
+      | inl l ↦ rw (get_or_append_left xs (c ∷ []) d j l, get_or_append_left xs (c ∷ []) d i (omega arith)) (falls i j d m l)
+      | inr l ↦
+          let e : length xs ≡ j = omega (arith, length_push xs c) in
+          let a : ltb c.at (get_or xs i d).at ≡ true = above i d (omega arith) (omega arith) in
+          rw (get_or_push xs c d j e, get_or_append_left xs (c ∷ []) d i (omega arith)) (grind (arith, nat_tests))
     ]
 
 -- what is kept by a cut at a partition point stands above `at`
@@ -100,19 +100,19 @@ kept_above xs at n l h k d p q =
 pub set_pushed : (old ys : List Change) (at mask : ℕ) → AllWithin (λ c. ltb at c.at ≡ true) ys 0 (length ys) → ((i : ℕ) → at < i → mask_at ys i ≡ mask_at old i) → (i : ℕ) → mask_at (ys ++ record { at = at; mask = mask } ∷ []) i ≡ cond (leb i at) mask (mask_at old i)
 set_pushed old ys at mask above later i =
     elim (cases_lt at i) [
-      inl l ↦
-        let e : leb i at ≡ false = grind (arith, nat_tests) in
-        rw e (added_later 0 ys (record { at = at; mask = mask }) i l ∙ later i l)
-    | inr l ↦
-        let e : leb i at ≡ true = grind (arith, nat_tests) in
-        rw e (added_up_to 0 ys (record { at = at; mask = mask }) i l above)
+      | inl l ↦
+          let e : leb i at ≡ false = grind (arith, nat_tests) in
+          rw e (added_later 0 ys (record { at = at; mask = mask }) i l ∙ later i l)
+      | inr l ↦
+          let e : leb i at ≡ true = grind (arith, nat_tests) in
+          rw e (added_up_to 0 ys (record { at = at; mask = mask }) i l above)
     ]
 
 pub set_kept : (old ys : List Change) (at mask : ℕ) → AllWithin (λ c. ltb at c.at ≡ true) ys 0 (length ys) → ((i : ℕ) → at < i → mask_at ys i ≡ mask_at old i) → mask_at ys 0 ≡ mask → (i : ℕ) → mask_at ys i ≡ cond (leb i at) mask (mask_at old i)
 set_kept old ys at mask above later same i =
     elim (cases_lt at i) [
-      inl l ↦ let e : leb i at ≡ false = grind (arith, nat_tests) in rw e (later i l)
-    | inr l ↦ let e : leb i at ≡ true = grind (arith, nat_tests) in rw e (settled 0 ys at i l above ∙ same)
+      | inl l ↦ let e : leb i at ≡ false = grind (arith, nat_tests) in rw e (later i l)
+      | inr l ↦ let e : leb i at ≡ true = grind (arith, nat_tests) in rw e (settled 0 ys at i l above ∙ same)
     ]
 
 -- each change stands at instruction 0 or later

@@ -16,7 +16,6 @@ use Rattle.need_pass.proofs.Agreement.{same_seen, agrees_next}
 use Rattle.need_pass.proofs.Ranges.{words_next, words_reset, words_after}
 
 module _ (image : LoadedImage) (clocks : List ℕ) (run : EndedRun) (is : IsImage image) (fit : All (λ c. c < 2 ^ 32) clocks) (trace : IsTrace image clocks run) where
-
   recorded_words : (i : ℕ) → IsWords (recorded image clocks i)
   recorded_words i = words_after image i (reset image clocks) is (words_reset image clocks is fit)
 

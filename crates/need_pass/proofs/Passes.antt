@@ -30,9 +30,10 @@ needed_place (i ∷ later) p n = n.0
 -- what is needed before an instruction, by it and by the others
 needed_more : (i : Retired) (later : List Retired) (p : Place) → IsPlace p → (B : Place → Type 0) → ((q : Place) → IsPlace q → B q ↔ Needed later q) → (Root i p ⊎ ((q : Place) × IsPlace q × Link i p q × B q)) ↔ Needed (i ∷ later) p
 unfolding Needed
-needed_more i later p is B same =
-    (λ s. elim s [ inl root ↦ (is, inl root) | inr (q, qs, link, b) ↦ (is, inr (q, link, (same q qs).0 b)) ],
-     λ n. elim n.1 [ inl root ↦ inl root | inr (q, link, m) ↦ let qs = needed_place later q m in inr (q, qs, link, (same q qs).1 m) ])
+needed_more i later p is B same = (
+  λ s. elim s [ inl root ↦ (is, inl root) | inr (q, qs, link, b) ↦ (is, inr (q, link, (same q qs).0 b)) ],
+  λ n. elim n.1 [ inl root ↦ inl root | inr (q, link, m) ↦ let qs = needed_place later q m in inr (q, qs, link, (same q qs).1 m) ],
+)
 
 -- at the first instruction the need is that of `at`
 at_first : (registers : List (List Change)) (bytes : List (ℕ × List Change)) (at : ℕ) → IsSettled registers bytes at → (p : Place) → IsPlace p → need_bit registers bytes p 0 ≡ need_bit registers bytes p at
@@ -45,25 +46,28 @@ passed_more entries registers registers' bytes bytes' at entry found same h step
   where
     settled : IsSettled registers' bytes' at
     settled = step.settled (record { register = λ r i a b l. h.settled.register r i a b (omega arith); byte = λ p i a l. h.settled.byte p i a (omega arith) })
+
     before : (q : Place) → IsPlace q → (need_bit registers bytes q 0 ≡ 1) ↔ Needed (drop (at + 1) entries) q
     before q is =
         let e : need_bit registers bytes q 0 ≡ need_bit registers bytes q (at + 1) = at_first registers bytes (at + 1) h.settled q is in
         let x = h.exact q (at + 1) is (omega arith) in
         (λ one. x.0 (sym e ∙ one), λ n. e ∙ x.1 n)
+
     here : (p : Place) → IsPlace p → (need_bit registers' bytes' p at ≡ 1) ↔ Needed (drop at entries) p
     here p is =
         let e : need_bit registers' bytes' p 0 ≡ need_bit registers' bytes' p at = at_first registers' bytes' at settled p is in
         let d : drop at entries ≡ entry ∷ drop (at + 1) entries = drop_more entries at entry (slice_get_within entries at entry found) ∙ ap (λ x. x ∷ drop (at + 1) entries) (get_or_from_slice_get entries at entry entry found) in
         let more = needed_more entry (drop (at + 1) entries) p is (λ q. need_bit registers bytes q 0 ≡ 1) (before) in
         (λ one. rw d (more.0 ((step.now p is).0 (e ∙ one))), λ n. sym e ∙ (step.now p is).1 (more.1 (rw d at n)))
+
     exact : (p : Place) (i : ℕ) → IsPlace p → at ≤ i → (need_bit registers' bytes' p i ≡ 1) ↔ Needed (drop i entries) p
     exact p i is l =
         elim (cases_lt at i) [
-          inl m ↦
-            let e : need_bit registers' bytes' p i ≡ need_bit registers bytes p i = step.later p i is m in
-            let x = h.exact p i is (omega arith) in
-            (λ one. x.0 (sym e ∙ one), λ n. e ∙ x.1 n)
-        | inr m ↦ let e : i ≡ at = omega arith in rw e (here p is)
+          | inl m ↦
+              let e : need_bit registers' bytes' p i ≡ need_bit registers bytes p i = step.later p i is m in
+              let x = h.exact p i is (omega arith) in
+              (λ one. x.0 (sym e ∙ one), λ n. e ∙ x.1 n)
+          | inr m ↦ let e : i ≡ at = omega arith in rw e (here p is)
         ]
 
 abbrev none : List Change
@@ -72,8 +76,8 @@ none = []
 none_at : (n k : ℕ) → get_or (replicate n none) k none ≡ none
 none_at n k =
     elim (cases_lt k n) [
-      inl l ↦ get_or-replicate n k none none l
-    | inr l ↦ get_or_past (replicate n none) k none (omega (arith, length-replicate n none))
+      | inl l ↦ get_or-replicate n k none none l
+      | inr l ↦ get_or_past (replicate n none) k none (omega (arith, length-replicate n none))
     ]
 
 mask_none : (i : ℕ) → mask_at [] i ≡ 0
@@ -93,10 +97,13 @@ passed_none entries registers e = record {
   where
     no_register : (r i : ℕ) → register_mask registers r i ≡ 0
     no_register r i = ap (λ xs. mask_at (get_or xs (r - 1) []) i) e ∙ ap (λ x. mask_at x i) (none_at 31 (r - 1)) ∙ mask_none i
+
     no_byte : (p i : ℕ) → byte_mask [] p i ≡ 0
     no_byte p i = mask_none i
+
     never : (i : ℕ) (p : Place) → length entries ≤ i → Needed (drop i entries) p → ⊥
     never i p l n = needed_none p (rw (drop_all i entries l) at n)
+
     exact : (p : Place) (i : ℕ) → IsPlace p → length entries ≤ i → (need_bit registers [] p i ≡ 1) ↔ Needed (drop i entries) p
     exact (Register r k) i is l = (λ one. absurd (omega (arith, bit_at-zero k, rw (no_register r i) at one)), λ n. absurd (never i (Register r k) l n))
     exact (Byte p k) i is l = (λ one. absurd (omega (arith, bit_at-zero k, rw (no_byte p i) at one)), λ n. absurd (never i (Byte p k) l n))

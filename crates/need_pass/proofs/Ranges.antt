@@ -131,8 +131,8 @@ counter_below _ clock count b h g k = k
 put_below : (rd v : ℕ) (f : ℕ → ℕ) → v < 2 ^ 32 → ((r : ℕ) → f r < 2 ^ 32) → (r : ℕ) → put_reg rd v f r < 2 ^ 32
 put_below rd v f h g r =
     elim (eqb rd 0) as (λ t. (cond t f (λ s. cond (eqb s rd) v (f s))) r < 2 ^ 32) [
-      true ↦ g r
-    | false ↦ elim (eqb r rd) as (λ t. cond t v (f r) < 2 ^ 32) [ true ↦ h | false ↦ g r ]
+      | true ↦ g r
+      | false ↦ elim (eqb r rd) as (λ t. cond t v (f r) < 2 ^ 32) [ true ↦ h | false ↦ g r ]
     ]
 
 small_next : (image : LoadedImage) (at : State) → IsImage image → IsWords at → IsSmall (next_action image at)

@@ -35,12 +35,12 @@ half_same : (x m : ℕ) (P : ℕ → Type 0) (f g : ℕ → ℕ) → ((p : ℕ) 
 half_same x m P f g hf hg same l p =
     let y : ℕ = x / 2 * 2 in
     elim (cases_lt m 8) [
-      inl b ↦
-        let e : 8 * (y % 2) + m ≡ m = omega arith in
-        half_low (f y) (f (y + 1)) m b ∙ same y m (accessed 2 x y (omega arith)) b (rw e p) ∙ sym (half_low (g y) (g (y + 1)) m b)
-    | inr b ↦
-        let e : 8 * ((y + 1) % 2) + (m - 8) ≡ m = omega arith in
-        half_high (f y) (f (y + 1)) m (hf y) b ∙ same (y + 1) (m - 8) (accessed 2 x (y + 1) (omega arith)) (omega arith) (rw e p) ∙ sym (half_high (g y) (g (y + 1)) m (hg y) b)
+      | inl b ↦
+          let e : 8 * (y % 2) + m ≡ m = omega arith in
+          half_low (f y) (f (y + 1)) m b ∙ same y m (accessed 2 x y (omega arith)) b (rw e p) ∙ sym (half_low (g y) (g (y + 1)) m b)
+      | inr b ↦
+          let e : 8 * ((y + 1) % 2) + (m - 8) ≡ m = omega arith in
+          half_high (f y) (f (y + 1)) m (hf y) b ∙ same (y + 1) (m - 8) (accessed 2 x (y + 1) (omega arith)) (omega arith) (rw e p) ∙ sym (half_high (g y) (g (y + 1)) m (hg y) b)
     ]
 
 half_below : (x : ℕ) (f : ℕ → ℕ) → ((p : ℕ) → f p < 2 ^ 8) → half_at x f < 2 ^ 16
@@ -70,71 +70,71 @@ word_same x m P f g hf hg same l p =
 extended_byte-low : (v j : ℕ) → j < 8 → bit_at (extended_byte v) j ≡ bit_at v j
 extended_byte-low v j l =
     elim (cases_lt v (2 ^ 7)) [
-      inl b ↦ let t : ltb v (2 ^ 7) ≡ true = grind (arith, nat_tests) in rw t refl
-    | inr b ↦
-        let t : ltb v (2 ^ 7) ≡ false = grind (arith, nat_tests) in
-        let e : v + (2 ^ 32 - 2 ^ 8) ≡ (2 ^ 24 - 1) * 2 ^ 8 + v = omega arith in
-        rw (t, e) (bit_at_cat_low (2 ^ 24 - 1) 8 v j l)
+      | inl b ↦ let t : ltb v (2 ^ 7) ≡ true = grind (arith, nat_tests) in rw t refl
+      | inr b ↦
+          let t : ltb v (2 ^ 7) ≡ false = grind (arith, nat_tests) in
+          let e : v + (2 ^ 32 - 2 ^ 8) ≡ (2 ^ 24 - 1) * 2 ^ 8 + v = omega arith in
+          rw (t, e) (bit_at_cat_low (2 ^ 24 - 1) 8 v j l)
     ]
 
 extended_byte-high : (v j : ℕ) → v < 2 ^ 8 → 8 ≤ j → j < 32 → bit_at (extended_byte v) j ≡ bit_at v 7
 extended_byte-high v j h l m =
     elim (cases_lt v (2 ^ 7)) [
-      inl b ↦
-        let t : ltb v (2 ^ 7) ≡ true = grind (arith, nat_tests) in
-        rw t (bit_at_above v 7 j b (omega arith) ∙ sym (bit_at_above v 7 7 b (omega arith)))
-    | inr b ↦
-        let t : ltb v (2 ^ 7) ≡ false = grind (arith, nat_tests) in
-        let e : v + (2 ^ 32 - 2 ^ 8) ≡ (2 ^ 24 - 1) * 2 ^ 8 + v = omega arith in
-        let top : bit_at v 7 ≡ 1 = omega arith in
-        rw (t, e) (bit_at_cat_high (2 ^ 24 - 1) 8 v j h l ∙ bit_at_ones 24 (j - 8) (omega arith) ∙ sym top)
+      | inl b ↦
+          let t : ltb v (2 ^ 7) ≡ true = grind (arith, nat_tests) in
+          rw t (bit_at_above v 7 j b (omega arith) ∙ sym (bit_at_above v 7 7 b (omega arith)))
+      | inr b ↦
+          let t : ltb v (2 ^ 7) ≡ false = grind (arith, nat_tests) in
+          let e : v + (2 ^ 32 - 2 ^ 8) ≡ (2 ^ 24 - 1) * 2 ^ 8 + v = omega arith in
+          let top : bit_at v 7 ≡ 1 = omega arith in
+          rw (t, e) (bit_at_cat_high (2 ^ 24 - 1) 8 v j h l ∙ bit_at_ones 24 (j - 8) (omega arith) ∙ sym top)
     ]
 
 extended_half-low : (v j : ℕ) → j < 16 → bit_at (extended_half v) j ≡ bit_at v j
 extended_half-low v j l =
     elim (cases_lt v (2 ^ 15)) [
-      inl b ↦ let t : ltb v (2 ^ 15) ≡ true = grind (arith, nat_tests) in rw t refl
-    | inr b ↦
-        let t : ltb v (2 ^ 15) ≡ false = grind (arith, nat_tests) in
-        let e : v + (2 ^ 32 - 2 ^ 16) ≡ (2 ^ 16 - 1) * 2 ^ 16 + v = omega arith in
-        rw (t, e) (bit_at_cat_low (2 ^ 16 - 1) 16 v j l)
+      | inl b ↦ let t : ltb v (2 ^ 15) ≡ true = grind (arith, nat_tests) in rw t refl
+      | inr b ↦
+          let t : ltb v (2 ^ 15) ≡ false = grind (arith, nat_tests) in
+          let e : v + (2 ^ 32 - 2 ^ 16) ≡ (2 ^ 16 - 1) * 2 ^ 16 + v = omega arith in
+          rw (t, e) (bit_at_cat_low (2 ^ 16 - 1) 16 v j l)
     ]
 
 extended_half-high : (v j : ℕ) → v < 2 ^ 16 → 16 ≤ j → j < 32 → bit_at (extended_half v) j ≡ bit_at v 15
 extended_half-high v j h l m =
     elim (cases_lt v (2 ^ 15)) [
-      inl b ↦
-        let t : ltb v (2 ^ 15) ≡ true = grind (arith, nat_tests) in
-        rw t (bit_at_above v 15 j b (omega arith) ∙ sym (bit_at_above v 15 15 b (omega arith)))
-    | inr b ↦
-        let t : ltb v (2 ^ 15) ≡ false = grind (arith, nat_tests) in
-        let e : v + (2 ^ 32 - 2 ^ 16) ≡ (2 ^ 16 - 1) * 2 ^ 16 + v = omega arith in
-        let top : bit_at v 15 ≡ 1 = omega arith in
-        rw (t, e) (bit_at_cat_high (2 ^ 16 - 1) 16 v j h l ∙ bit_at_ones 16 (j - 16) (omega arith) ∙ sym top)
+      | inl b ↦
+          let t : ltb v (2 ^ 15) ≡ true = grind (arith, nat_tests) in
+          rw t (bit_at_above v 15 j b (omega arith) ∙ sym (bit_at_above v 15 15 b (omega arith)))
+      | inr b ↦
+          let t : ltb v (2 ^ 15) ≡ false = grind (arith, nat_tests) in
+          let e : v + (2 ^ 32 - 2 ^ 16) ≡ (2 ^ 16 - 1) * 2 ^ 16 + v = omega arith in
+          let top : bit_at v 15 ≡ 1 = omega arith in
+          rw (t, e) (bit_at_cat_high (2 ^ 16 - 1) 16 v j h l ∙ bit_at_ones 16 (j - 16) (omega arith) ∙ sym top)
     ]
 
 pub same_loaded : (kind : LoadKind) (x j : ℕ) (f g : ℕ → ℕ) → ((p : ℕ) → f p < 2 ^ 8) → ((p : ℕ) → g p < 2 ^ 8) → j < 32 → ((p k : ℕ) → accesses (load_size kind) x p ≡ true → k < 8 → FromLoaded kind (8 * (p % load_size kind) + k) j → bit_at (f p) k ≡ bit_at (g p) k) → bit_at (loaded kind x f) j ≡ bit_at (loaded kind x g) j
 unfolding loaded
 same_loaded Lb x j f g hf hg l same =
     elim (cases_lt j 8) [
-      inl b ↦ extended_byte-low (f x) j b ∙ byte_same x j (λ k. FromLoaded Lb k j) f g same b (inl refl) ∙ sym (extended_byte-low (g x) j b)
-    | inr b ↦ extended_byte-high (f x) j (hf x) b l ∙ byte_same x 7 (λ k. FromLoaded Lb k j) f g same (lit< tt) (inr (refl, omega arith)) ∙ sym (extended_byte-high (g x) j (hg x) b l)
+      | inl b ↦ extended_byte-low (f x) j b ∙ byte_same x j (λ k. FromLoaded Lb k j) f g same b (inl refl) ∙ sym (extended_byte-low (g x) j b)
+      | inr b ↦ extended_byte-high (f x) j (hf x) b l ∙ byte_same x 7 (λ k. FromLoaded Lb k j) f g same (lit< tt) (inr (refl, omega arith)) ∙ sym (extended_byte-high (g x) j (hg x) b l)
     ]
 same_loaded Lh x j f g hf hg l same =
     elim (cases_lt j 16) [
-      inl b ↦ extended_half-low (half_at x f) j b ∙ half_same x j (λ k. FromLoaded Lh k j) f g hf hg same b (inl refl) ∙ sym (extended_half-low (half_at x g) j b)
-    | inr b ↦ extended_half-high (half_at x f) j (half_below x f hf) b l ∙ half_same x 15 (λ k. FromLoaded Lh k j) f g hf hg same (lit< tt) (inr (refl, omega arith)) ∙ sym (extended_half-high (half_at x g) j (half_below x g hg) b l)
+      | inl b ↦ extended_half-low (half_at x f) j b ∙ half_same x j (λ k. FromLoaded Lh k j) f g hf hg same b (inl refl) ∙ sym (extended_half-low (half_at x g) j b)
+      | inr b ↦ extended_half-high (half_at x f) j (half_below x f hf) b l ∙ half_same x 15 (λ k. FromLoaded Lh k j) f g hf hg same (lit< tt) (inr (refl, omega arith)) ∙ sym (extended_half-high (half_at x g) j (half_below x g hg) b l)
     ]
 same_loaded Lw x j f g hf hg l same = word_same x j (λ k. k ≡ j) f g hf hg same l refl
 same_loaded Lbu x j f g hf hg l same =
     elim (cases_lt j 8) [
-      inl b ↦ byte_same x j (λ k. k ≡ j) f g same b refl
-    | inr b ↦ bit_at_above (f x) 8 j (hf x) b ∙ sym (bit_at_above (g x) 8 j (hg x) b)
+      | inl b ↦ byte_same x j (λ k. k ≡ j) f g same b refl
+      | inr b ↦ bit_at_above (f x) 8 j (hf x) b ∙ sym (bit_at_above (g x) 8 j (hg x) b)
     ]
 same_loaded Lhu x j f g hf hg l same =
     elim (cases_lt j 16) [
-      inl b ↦ half_same x j (λ k. k ≡ j) f g hf hg same b refl
-    | inr b ↦ bit_at_above (half_at x f) 16 j (half_below x f hf) b ∙ sym (bit_at_above (half_at x g) 16 j (half_below x g hg) b)
+      | inl b ↦ half_same x j (λ k. k ≡ j) f g hf hg same b refl
+      | inr b ↦ bit_at_above (half_at x f) 16 j (half_below x f hf) b ∙ sym (bit_at_above (half_at x g) 16 j (half_below x g hg) b)
     ]
 
 -- a stored byte

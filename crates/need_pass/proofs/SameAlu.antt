@@ -22,8 +22,8 @@ amount_below b = omega arith
 same_shift_signed : (a c n j : ℕ) → a < 2 ^ 32 → c < 2 ^ 32 → n < 32 → j < 32 → ((k : ℕ) → k < 32 → (k ≡ j + n) ⊎ ((k ≡ 31) × (31 < j + n)) → bit_at a k ≡ bit_at c k) → bit_at (shift_signed a n) j ≡ bit_at (shift_signed c n) j
 same_shift_signed a c n j h g l m same =
     elim (cases_lt (n + j) 32) [
-      inl b ↦ shift_signed-low a n j h l b ∙ same (n + j) b (inl (omega arith)) ∙ sym (shift_signed-low c n j g l b)
-    | inr b ↦ shift_signed-high a n j h l m b ∙ same 31 (omega arith) (inr (refl, omega arith)) ∙ sym (shift_signed-high c n j g l m b)
+      | inl b ↦ shift_signed-low a n j h l b ∙ same (n + j) b (inl (omega arith)) ∙ sym (shift_signed-low c n j g l b)
+      | inr b ↦ shift_signed-high a n j h l m b ∙ same 31 (omega arith) (inr (refl, omega arith)) ∙ sym (shift_signed-high c n j g l m b)
     ]
 
 -- where every bit has a link to every bit
@@ -45,8 +45,8 @@ same_alu Sll a b c d j ha hb hc hd l sa sb =
 same_alu Srl a b c d j ha hb hc hd l sa sb =
     let n : b % 32 ≡ d % 32 = same_amount b d sb in
     same_shr a c (b % 32) j (elim (cases_lt (b % 32 + j) 32) [
-      inl m ↦ sa (b % 32 + j) m (omega arith)
-    | inr m ↦ bit_at_above a 32 (b % 32 + j) ha m ∙ sym (bit_at_above c 32 (b % 32 + j) hc m)
+      | inl m ↦ sa (b % 32 + j) m (omega arith)
+      | inr m ↦ bit_at_above a 32 (b % 32 + j) ha m ∙ sym (bit_at_above c 32 (b % 32 + j) hc m)
     ])
     ∙ ap (λ x. bit_at (c / 2 ^ x) j) n
 same_alu Sra a b c d j ha hb hc hd l sa sb =
@@ -58,12 +58,12 @@ pub same_immediate : (kind : AluKind) (a c n j : ℕ) → a < 2 ^ 32 → c < 2 ^
 unfolding alu
 same_immediate And a c n j ha hc hn l sa =
     elim (cases_eq (bit_at n j) 1) [
-      inl one ↦ bit_at_and a n j ∙ ap (λ x. min x (bit_at n j)) (sa j l (refl, one)) ∙ sym (bit_at_and c n j)
-    | inr z ↦ omega (arith, bit_at_and a n j, bit_at_and c n j, bit_at-lt n j)
+      | inl one ↦ bit_at_and a n j ∙ ap (λ x. min x (bit_at n j)) (sa j l (refl, one)) ∙ sym (bit_at_and c n j)
+      | inr z ↦ omega (arith, bit_at_and a n j, bit_at_and c n j, bit_at-lt n j)
     ]
 same_immediate Or a c n j ha hc hn l sa =
     elim (cases_eq (bit_at n j) 0) [
-      inl nil ↦ bit_at_or a n j ∙ ap (λ x. max x (bit_at n j)) (sa j l (refl, nil)) ∙ sym (bit_at_or c n j)
-    | inr z ↦ omega (arith, bit_at_or a n j, bit_at_or c n j, bit_at-lt n j, bit_at-lt a j, bit_at-lt c j)
+      | inl nil ↦ bit_at_or a n j ∙ ap (λ x. max x (bit_at n j)) (sa j l (refl, nil)) ∙ sym (bit_at_or c n j)
+      | inr z ↦ omega (arith, bit_at_or a n j, bit_at_or c n j, bit_at-lt n j, bit_at-lt a j, bit_at-lt c j)
     ]
 same_immediate kind a c n j ha hc hn l sa = same_alu kind a n c n j ha hn hc hn l sa (λ k m s. refl)

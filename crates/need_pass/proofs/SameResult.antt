@@ -46,39 +46,39 @@ same_xor a b c d j e f = bit_at_xor a b j ∙ ap (λ x. (x + bit_at b j) % 2) e 
 pub same_and : (a b c d j : ℕ) → ((bit_at a j ≡ 0) ⊎ (bit_at b j ≡ 1) → bit_at a j ≡ bit_at c j) → (bit_at a j ≡ 1 → bit_at b j ≡ bit_at d j) → bit_at (bit_and a b) j ≡ bit_at (bit_and c d) j
 same_and a b c d j sa sb =
     elim (cases_eq (bit_at a j) 1) [
-      inl one ↦
-        let f : bit_at b j ≡ bit_at d j = sb one in
-        elim (cases_eq (bit_at b j) 1) [
-          inl o ↦ let e : bit_at a j ≡ bit_at c j = sa (inr o) in omega (arith, bit_at_and a b j, bit_at_and c d j)
-        | inr z ↦ omega (arith, bit_at_and a b j, bit_at_and c d j, bit_at-lt b j)
-        ]
-    | inr z ↦
-        let zero : bit_at a j ≡ 0 = omega (arith, bit_at-lt a j) in
-        let e : bit_at a j ≡ bit_at c j = sa (inl zero) in
-        omega (arith, bit_at_and a b j, bit_at_and c d j)
+      | inl one ↦
+          let f : bit_at b j ≡ bit_at d j = sb one in
+          elim (cases_eq (bit_at b j) 1) [
+            | inl o ↦ let e : bit_at a j ≡ bit_at c j = sa (inr o) in omega (arith, bit_at_and a b j, bit_at_and c d j)
+            | inr z ↦ omega (arith, bit_at_and a b j, bit_at_and c d j, bit_at-lt b j)
+          ]
+      | inr z ↦
+          let zero : bit_at a j ≡ 0 = omega (arith, bit_at-lt a j) in
+          let e : bit_at a j ≡ bit_at c j = sa (inl zero) in
+          omega (arith, bit_at_and a b j, bit_at_and c d j)
     ]
 
 pub same_or : (a b c d j : ℕ) → ((bit_at a j ≡ 1) ⊎ (bit_at b j ≡ 0) → bit_at a j ≡ bit_at c j) → (bit_at a j ≡ 0 → bit_at b j ≡ bit_at d j) → bit_at (bit_or a b) j ≡ bit_at (bit_or c d) j
 same_or a b c d j sa sb =
     elim (cases_eq (bit_at a j) 0) [
-      inl nil ↦
-        let f : bit_at b j ≡ bit_at d j = sb nil in
-        elim (cases_eq (bit_at b j) 0) [
-          inl o ↦ let e : bit_at a j ≡ bit_at c j = sa (inr o) in omega (arith, bit_at_or a b j, bit_at_or c d j)
-        | inr z ↦ omega (arith, bit_at_or a b j, bit_at_or c d j, bit_at-lt b j, bit_at-lt c j)
-        ]
-    | inr z ↦
-        let one : bit_at a j ≡ 1 = omega (arith, bit_at-lt a j) in
-        let e : bit_at a j ≡ bit_at c j = sa (inl one) in
-        omega (arith, bit_at_or a b j, bit_at_or c d j, bit_at-lt b j, bit_at-lt d j)
+      | inl nil ↦
+          let f : bit_at b j ≡ bit_at d j = sb nil in
+          elim (cases_eq (bit_at b j) 0) [
+            | inl o ↦ let e : bit_at a j ≡ bit_at c j = sa (inr o) in omega (arith, bit_at_or a b j, bit_at_or c d j)
+            | inr z ↦ omega (arith, bit_at_or a b j, bit_at_or c d j, bit_at-lt b j, bit_at-lt c j)
+          ]
+      | inr z ↦
+          let one : bit_at a j ≡ 1 = omega (arith, bit_at-lt a j) in
+          let e : bit_at a j ≡ bit_at c j = sa (inl one) in
+          omega (arith, bit_at_or a b j, bit_at_or c d j, bit_at-lt b j, bit_at-lt d j)
     ]
 
 pub same_shl : (a c n j : ℕ) → j < 32 → (n ≤ j → bit_at a (j - n) ≡ bit_at c (j - n)) → bit_at (a * 2 ^ n % 2 ^ 32) j ≡ bit_at (c * 2 ^ n % 2 ^ 32) j
 same_shl a c n j l same =
     bit_at-mod (a * 2 ^ n) 32 j l
     ∙ elim (cases_lt j n) [
-      inl m ↦ bit_at-shl_low a n j m ∙ sym (bit_at-shl_low c n j m)
-    | inr m ↦ bit_at-shl_high a n j m ∙ same m ∙ sym (bit_at-shl_high c n j m)
+      | inl m ↦ bit_at-shl_low a n j m ∙ sym (bit_at-shl_low c n j m)
+      | inr m ↦ bit_at-shl_high a n j m ∙ same m ∙ sym (bit_at-shl_high c n j m)
     ]
     ∙ sym (bit_at-mod (c * 2 ^ n) 32 j l)
 

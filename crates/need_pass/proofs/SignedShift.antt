@@ -36,19 +36,19 @@ high a n l = high_part (2 ^ n) (2 ^ (32 - n)) (2 ^ 32) (a / 2 ^ n) (power_split 
 pub shift_signed-low : (a n j : ℕ) → a < 2 ^ 32 → n < 32 → n + j < 32 → bit_at (shift_signed a n) j ≡ bit_at a (n + j)
 shift_signed-low a n j h l m =
     elim (cases_lt a (2 ^ 31)) [
-      inl b ↦ let t : ltb a (2 ^ 31) ≡ true = grind (arith, nat_tests) in rw t (bit_at-shr a n j)
-    | inr b ↦
-        let t : ltb a (2 ^ 31) ≡ false = grind (arith, nat_tests) in
-        rw (t, high a n l) (bit_at_cat_low (2 ^ n - 1) (32 - n) (a / 2 ^ n) j (omega arith) ∙ bit_at-shr a n j)
+      | inl b ↦ let t : ltb a (2 ^ 31) ≡ true = grind (arith, nat_tests) in rw t (bit_at-shr a n j)
+      | inr b ↦
+          let t : ltb a (2 ^ 31) ≡ false = grind (arith, nat_tests) in
+          rw (t, high a n l) (bit_at_cat_low (2 ^ n - 1) (32 - n) (a / 2 ^ n) j (omega arith) ∙ bit_at-shr a n j)
     ]
 
 pub shift_signed-high : (a n j : ℕ) → a < 2 ^ 32 → n < 32 → j < 32 → 32 ≤ n + j → bit_at (shift_signed a n) j ≡ bit_at a 31
 shift_signed-high a n j h l k m =
     elim (cases_lt a (2 ^ 31)) [
-      inl b ↦
-        let t : ltb a (2 ^ 31) ≡ true = grind (arith, nat_tests) in
-        rw t (bit_at-shr a n j ∙ bit_at_above a 31 (n + j) b (omega arith) ∙ sym (bit_at_above a 31 31 b (omega arith)))
-    | inr b ↦
-        let t : ltb a (2 ^ 31) ≡ false = grind (arith, nat_tests) in
-        rw (t, high a n l) (bit_at_cat_high (2 ^ n - 1) (32 - n) (a / 2 ^ n) j (part_below a n h l) (omega arith) ∙ bit_at_ones n (j - (32 - n)) (omega arith) ∙ sym (top_one a h b))
+      | inl b ↦
+          let t : ltb a (2 ^ 31) ≡ true = grind (arith, nat_tests) in
+          rw t (bit_at-shr a n j ∙ bit_at_above a 31 (n + j) b (omega arith) ∙ sym (bit_at_above a 31 31 b (omega arith)))
+      | inr b ↦
+          let t : ltb a (2 ^ 31) ≡ false = grind (arith, nat_tests) in
+          rw (t, high a n l) (bit_at_cat_high (2 ^ n - 1) (32 - n) (a / 2 ^ n) j (part_below a n h l) (omega arith) ∙ bit_at_ones n (j - (32 - n)) (omega arith) ∙ sym (top_one a h b))
     ]

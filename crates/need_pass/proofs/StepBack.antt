@@ -91,15 +91,17 @@ byte_settled i at R0 R1 R2 R3 B0 B1 B2 h p x l m same =
 -- ---- and they are the roots and the links
 
 or_bits : (a b k : ℕ) → (bit_at (bit_or a b) k ≡ 1) ↔ ((bit_at a k ≡ 1) ⊎ (bit_at b k ≡ 1))
-or_bits a b k =
-    (λ one. elim (cases_eq (bit_at a k) 1) [ inl e ↦ inl e | inr e ↦ inr (omega (arith, bit_at_or a b k, bit_at-lt a k, bit_at-lt b k)) ],
-     λ s. elim s [ inl e ↦ omega (arith, bit_at_or a b k, bit_at-lt b k) | inr e ↦ omega (arith, bit_at_or a b k, bit_at-lt a k) ])
+or_bits a b k = (
+  λ one. elim (cases_eq (bit_at a k) 1) [ inl e ↦ inl e | inr e ↦ inr (omega (arith, bit_at_or a b k, bit_at-lt a k, bit_at-lt b k)) ],
+  λ s. elim s [ inl e ↦ omega (arith, bit_at_or a b k, bit_at-lt b k) | inr e ↦ omega (arith, bit_at_or a b k, bit_at-lt a k) ],
+)
 
 -- a mask with another added where a test holds
 added_bits : (w : Bool) (a b k : ℕ) → (bit_at (cond w (bit_or a b) a) k ≡ 1) ↔ ((bit_at a k ≡ 1) ⊎ ((w ≡ true) × (bit_at b k ≡ 1)))
-added_bits true a b k =
-    (λ one. elim ((or_bits a b k).0 one) [ inl e ↦ inl e | inr e ↦ inr (refl, e) ],
-     λ s. elim s [ inl e ↦ (or_bits a b k).1 (inl e) | inr e ↦ (or_bits a b k).1 (inr e.1) ])
+added_bits true a b k = (
+  λ one. elim ((or_bits a b k).0 one) [ inl e ↦ inl e | inr e ↦ inr (refl, e) ],
+  λ s. elim s [ inl e ↦ (or_bits a b k).1 (inl e) | inr e ↦ (or_bits a b k).1 (inr e.1) ],
+)
 added_bits false a b k = (λ one. inl one, λ s. elim s [ inl e ↦ e | inr e ↦ absurd (false≢true e.0) ])
 
 -- and taken out
@@ -120,25 +122,26 @@ register_bits i at R0 R1 R2 R3 B0 B1 B2 h r k p l =
     let e3 : bit_at (R3 r 0) k ≡ bit_at (cond (eqb r i.op.rs2) (bit_or (R2 r 0) h.b) (R2 r 0)) k = ap (λ m. bit_at m k) (added_b i at R0 R1 R2 R3 B0 B1 B2 h r 0 p l z) in
     let b1 = taken_bits (writes i r) (R0 r 0) k in
     let b2 = added_bits (eqb r i.op.rs1) (R1 r 0) h.a k in
-    let b3 = added_bits (eqb r i.op.rs2) (R2 r 0) h.b k in
-    (λ one.
-        elim (b3.0 (sym e3 ∙ one)) [
-          inl x ↦
-            elim (b2.0 (sym e2 ∙ x)) [
-              inl y ↦ inl (inl (b1.0 (sym e1 ∙ y)))
-            | inr y ↦ inl (inr (same_number r i.op.rs1 y.0, y.1))
-            ]
-        | inr x ↦ inr (same_number r i.op.rs2 x.0, x.1)
-        ],
-     λ s.
-        elim s [
-          inl t ↦
-            elim t [
-              inl y ↦ e3 ∙ b3.1 (inl (e2 ∙ b2.1 (inl (e1 ∙ b1.1 y))))
-            | inr y ↦ e3 ∙ b3.1 (inl (e2 ∙ b2.1 (inr (eq-eqb r i.op.rs1 y.0, y.1))))
-            ]
-        | inr y ↦ e3 ∙ b3.1 (inr (eq-eqb r i.op.rs2 y.0, y.1))
-        ])
+    let b3 = added_bits (eqb r i.op.rs2) (R2 r 0) h.b k in (
+      λ one.
+          elim (b3.0 (sym e3 ∙ one)) [
+            | inl x ↦
+                elim (b2.0 (sym e2 ∙ x)) [
+                  | inl y ↦ inl (inl (b1.0 (sym e1 ∙ y)))
+                  | inr y ↦ inl (inr (same_number r i.op.rs1 y.0, y.1))
+                ]
+            | inr x ↦ inr (same_number r i.op.rs2 x.0, x.1)
+          ],
+      λ s.
+          elim s [
+            | inl t ↦
+                elim t [
+                  | inl y ↦ e3 ∙ b3.1 (inl (e2 ∙ b2.1 (inl (e1 ∙ b1.1 y))))
+                  | inr y ↦ e3 ∙ b3.1 (inl (e2 ∙ b2.1 (inr (eq-eqb r i.op.rs1 y.0, y.1))))
+                ]
+            | inr y ↦ e3 ∙ b3.1 (inr (eq-eqb r i.op.rs2 y.0, y.1))
+          ],
+    )
   where
     same_number : (a b : ℕ) → eqb a b ≡ true → a ≡ b
     same_number a b e = grind (arith, nat_tests)
@@ -152,6 +155,7 @@ byte_bits i at R0 R1 R2 R3 B0 B1 B2 h p k l m =
     let e2 : bit_at (B2 p 0) k ≡ bit_at (cond (loads i p) (bit_or (B1 p 0) (byte_of h.loaded n)) (B1 p 0)) k = ap (λ v. bit_at v k) (added_loaded i at R0 R1 R2 R3 B0 B1 B2 h p 0 l z) in
     let b1 = taken_bits (stores i p) (B0 p 0) k in
     let b2 = added_bits (loads i p) (B1 p 0) (byte_of h.loaded n) k in
-    let b : bit_at (byte_of h.loaded n) k ≡ bit_at h.loaded (8 * n + k) = bit_at-byte_of h.loaded n k m in
-    (λ one. elim (b2.0 (sym e2 ∙ one)) [ inl x ↦ inl (b1.0 (sym e1 ∙ x)) | inr x ↦ inr (x.0, sym b ∙ x.1) ],
-     λ s. elim s [ inl x ↦ e2 ∙ b2.1 (inl (e1 ∙ b1.1 x)) | inr x ↦ e2 ∙ b2.1 (inr (x.0, b ∙ x.1)) ])
+    let b : bit_at (byte_of h.loaded n) k ≡ bit_at h.loaded (8 * n + k) = bit_at-byte_of h.loaded n k m in (
+      λ one. elim (b2.0 (sym e2 ∙ one)) [ inl x ↦ inl (b1.0 (sym e1 ∙ x)) | inr x ↦ inr (x.0, sym b ∙ x.1) ],
+      λ s. elim s [ inl x ↦ e2 ∙ b2.1 (inl (e1 ∙ b1.1 x)) | inr x ↦ e2 ∙ b2.1 (inr (x.0, b ∙ x.1)) ],
+    )

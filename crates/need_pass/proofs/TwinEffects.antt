@@ -82,6 +82,7 @@ allowed ram executable (Stores kind x y) = go (ram (x / 4)) refl
     inner : (u : Bool) → ram (x / 4) ≡ true → IsAllowed ram (cond u (Stores kind x y) (Traps 6))
     inner true e = e
     inner false e = tt
+
     go : (t : Bool) → ram (x / 4) ≡ t → IsAllowed ram (cond (t && not (some_executable executable x (store_size kind))) (Stores kind x y) (Traps 6))
     go true e = inner (not (some_executable executable x (store_size kind))) e
     go false e = tt
@@ -95,21 +96,24 @@ IsBlock size = (x p : ℕ) → x % size ≡ 0 → (has_byte (Some (x, size)) p �
 
 block_1 : IsBlock 1
 unfolding accesses
-block_1 x p e =
-    (elim (cases_eq (p / 1) (x / 1)) [ inl y ↦ grind (arith, nat_tests) | inr n ↦ grind (arith, nat_tests) ],
-     λ t. let y : p / 1 ≡ x / 1 = eqb-true (p / 1) (x / 1) t in (omega arith, omega arith))
+block_1 x p e = (
+  elim (cases_eq (p / 1) (x / 1)) [ inl y ↦ grind (arith, nat_tests) | inr n ↦ grind (arith, nat_tests) ],
+  λ t. let y : p / 1 ≡ x / 1 = eqb-true (p / 1) (x / 1) t in (omega arith, omega arith),
+)
 
 block_2 : IsBlock 2
 unfolding accesses
-block_2 x p e =
-    (elim (cases_eq (p / 2) (x / 2)) [ inl y ↦ grind (arith, nat_tests) | inr n ↦ grind (arith, nat_tests) ],
-     λ t. let y : p / 2 ≡ x / 2 = eqb-true (p / 2) (x / 2) t in (omega arith, omega arith))
+block_2 x p e = (
+  elim (cases_eq (p / 2) (x / 2)) [ inl y ↦ grind (arith, nat_tests) | inr n ↦ grind (arith, nat_tests) ],
+  λ t. let y : p / 2 ≡ x / 2 = eqb-true (p / 2) (x / 2) t in (omega arith, omega arith),
+)
 
 block_4 : IsBlock 4
 unfolding accesses
-block_4 x p e =
-    (elim (cases_eq (p / 4) (x / 4)) [ inl y ↦ grind (arith, nat_tests) | inr n ↦ grind (arith, nat_tests) ],
-     λ t. let y : p / 4 ≡ x / 4 = eqb-true (p / 4) (x / 4) t in (omega arith, omega arith))
+block_4 x p e = (
+  elim (cases_eq (p / 4) (x / 4)) [ inl y ↦ grind (arith, nat_tests) | inr n ↦ grind (arith, nat_tests) ],
+  λ t. let y : p / 4 ≡ x / 4 = eqb-true (p / 4) (x / 4) t in (omega arith, omega arith),
+)
 
 load_block : (kind : LoadKind) → IsBlock (load_size kind)
 load_block Lb = block_1
@@ -146,8 +150,8 @@ unfolding stored
 same_stored kind x p k b d f g aligned l ss sk =
     let parts = store_block kind x p aligned in
     elim (cases_Bool (accesses (store_size kind) x p)) [
-      inl t ↦ rw t (same_byte_of b d (p % store_size kind) k l (ss (parts.0 ∙ t) (8 * (p % store_size kind) + k) (let n = parts.1 t in omega (arith, n.0, n.1)) (let n = parts.1 t in omega (arith, n.1))))
-    | inr t ↦ rw t (sk (parts.0 ∙ t))
+      | inl t ↦ rw t (same_byte_of b d (p % store_size kind) k l (ss (parts.0 ∙ t) (8 * (p % store_size kind) + k) (let n = parts.1 t in omega (arith, n.0, n.1)) (let n = parts.1 t in omega (arith, n.1))))
+      | inr t ↦ rw t (sk (parts.0 ∙ t))
     ]
 
 pub same_memory : (image : LoadedImage) (o : Operation) (op : Op) (a b c d p k : ℕ) (f g : ℕ → ℕ) (x y : Action) → Twins o op a b c d x y → IsAllowed (word_in_ram image) x → k < 8 → (has_byte (stored_bytes (store_of x)) p ≡ true → (m : ℕ) → m < 32 → m ≡ 8 * byte_number (stored_bytes (store_of x)) p + k → bit_at b m ≡ bit_at d m) → (has_byte (stored_bytes (store_of x)) p ≡ false → bit_at (f p) k ≡ bit_at (g p) k) → bit_at (memory_after image x f p) k ≡ bit_at (memory_after image y g p) k

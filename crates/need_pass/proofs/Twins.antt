@@ -40,10 +40,10 @@ even_target a c imm even e = omega arith
 same_target : (a c imm : ℕ) → a < 2 ^ 32 → c < 2 ^ 32 → ((k : ℕ) → k < 32 → (0 < k) ⊎ (imm % 2 ≡ 1) → bit_at a k ≡ bit_at c k) → sum32 a imm / 2 * 2 ≡ sum32 c imm / 2 * 2
 same_target a c imm ha hc same =
     elim (cases_eq (imm % 2) 1) [
-      inl odd ↦ ap (λ x. sum32 x imm / 2 * 2) (same_all a c ha hc (λ k l. same k l (inr odd)))
-    | inr even ↦
-        let e : a / 2 ≡ c / 2 = same_from_bits_below 31 (a / 2) (c / 2) (omega arith) (omega arith) (λ k l. bit_at-shr a 1 k ∙ same (1 + k) (omega arith) (inl (omega arith)) ∙ sym (bit_at-shr c 1 k)) in
-        even_target a c imm even e
+      | inl odd ↦ ap (λ x. sum32 x imm / 2 * 2) (same_all a c ha hc (λ k l. same k l (inr odd)))
+      | inr even ↦
+          let e : a / 2 ≡ c / 2 = same_from_bits_below 31 (a / 2) (c / 2) (omega arith) (omega arith) (λ k l. bit_at-shr a 1 k ∙ same (1 + k) (omega arith) (inl (omega arith)) ∙ sym (bit_at-shr c 1 k)) in
+          even_target a c imm even e
     ]
 
 -- ---- where a jump goes
@@ -91,6 +91,7 @@ call_twins o op a b c d x v w same = go (x == 1) refl (x == 93) refl
   where
     byte : (x ≡ 1) ⊎ (x ≡ 93) → v % 2 ^ 8 ≡ w % 2 ^ 8
     byte s = same_rest 8 v w (λ k l. same k (omega arith) (l, s))
+
     go : (t : Bool) → (x == 1) ≡ t → (u : Bool) → (x == 93) ≡ u → Twins o op a b c d (cond t (Puts v) (cond u (Exits v) (Traps 8))) (cond t (Puts w) (cond u (Exits w) (Traps 8)))
     go true e u f = puts v w (byte (inl (eqb-true x 1 e)))
     go false e true f = exits v w (byte (inr (eqb-true x 93 f)))

@@ -21,10 +21,10 @@ next_action image at =
 
 -- What is seen of an instruction from outside.
 pub record Seen : Type 0 where
-  pub pc : ℕ                  -- its word address
+  pub pc : ℕ  -- its word address
   pub access : Option Access  -- where it loads or stores, and how many bytes
-  pub byte : Option ℕ         -- the byte that it puts
-  pub end : Option End        -- how it ends the run
+  pub byte : Option ℕ  -- the byte that it puts
+  pub end : Option End  -- how it ends the run
 
 unfoldable pub seen : LoadedImage → State → Seen
 seen image at =

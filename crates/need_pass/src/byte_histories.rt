@@ -117,11 +117,7 @@ pub fn clear_stored(
 fn byte_of_word(word: u32, n: u8) -> u32
     ensures { result ≡ byte_of word n }
 {
-    if n < 4 {
-        (word >> (8 * n)) & 0xff
-    } else {
-        0
-    }
+    if n < 4 { (word >> (8 * n)) & 0xff } else { 0 }
 }
 
 /// Adds needed bits of the bytes of an access, before each instruction up to `at`.

@@ -63,7 +63,8 @@ pub fn roots_a(entry: &Retired) -> u32
     ensures { IsMaskOf result (RootA (operations.operation_of entry.now.op.code) entry.now.op) }
 {
     match operation_of(entry.op.code) {
-        Operation::Load(_) | Operation::Store(_) | Operation::Branch(_) | Operation::Ecall => every(),
+        Operation::Load(_) | Operation::Store(_) | Operation::Branch(_) | Operation::Ecall =>
+            every(),
         Operation::Jalr => target_roots(entry.op.imm),
         _ => 0,
     }

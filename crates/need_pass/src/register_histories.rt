@@ -43,7 +43,11 @@ pub fn add_register(registers: &mut [History], r: u8, at: u32, mask: u32) -> Res
 }
 
 /// Takes out the needed bits of the register that the instruction writes, before each instruction up to `at`.
-pub fn take_register(registers: &mut [History], entry: &Retired, at: u32) -> Result<u32, OutOfMemory>
+pub fn take_register(
+    registers: &mut [History],
+    entry: &Retired,
+    at: u32,
+) -> Result<u32, OutOfMemory>
     requires { length registers.old ≡ 31 }
     ensures taken { OnOk result ((s i : ℕ) → 0 < s → s < 32 → register_mask registers.new s i ≡ (if writes entry.now s && nat_le i at then 0 else register_mask registers.old s i)) }
     ensures mask { IfOk result (λ m. IsMaskOf m (λ k. (s : ℕ) × (0 < s) × (s < 32) × (writes entry.now s ≡ true) × (bit_at (register_mask registers.old s 0) k ≡ 1))) }

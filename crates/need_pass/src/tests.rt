@@ -76,23 +76,73 @@ struct Row {
 const ROWS: [Row; 7] = [
     // lui s0, 0x80; sb t0, 0(s0); lb t1, 0(s0); sb t0, 0(s0): an address is a root, though nothing needs the loaded value
     Row {
-        words: &[0x0008_0437, 0x0054_0023, 0x0004_4303, 0x0054_0023, 0x05D0_0893, 0x0000_0073],
-        registers: &[
-            Query { place: 8, at: 1, need: 0xFFFF_FFFF },
-            Query { place: 5, at: 1, need: 0 },
+        words: &[
+            0x0008_0437,
+            0x0054_0023,
+            0x0004_4303,
+            0x0054_0023,
+            0x05D0_0893,
+            0x0000_0073,
         ],
-        bytes: &[Query { place: 0x8_0000, at: 2, need: 0 }],
+        registers: &[
+            Query {
+                place: 8,
+                at: 1,
+                need: 0xFFFF_FFFF,
+            },
+            Query {
+                place: 5,
+                at: 1,
+                need: 0,
+            },
+        ],
+        bytes: &[Query {
+            place: 0x8_0000,
+            at: 2,
+            need: 0,
+        }],
     },
     // addi t0, zero, 0; addi t1, t0, 0; addi t2, t0, 0; and a0, t1, t2: of two zeros the second is masked
     Row {
-        words: &[0x0000_0293, 0x0002_8313, 0x0002_8393, 0x0073_7533, 0x05D0_0893, 0x0000_0073],
+        words: &[
+            0x0000_0293,
+            0x0002_8313,
+            0x0002_8393,
+            0x0073_7533,
+            0x05D0_0893,
+            0x0000_0073,
+        ],
         registers: &[
-            Query { place: 6, at: 3, need: 0xFF },
-            Query { place: 7, at: 3, need: 0 },
-            Query { place: 5, at: 2, need: 0 },
-            Query { place: 5, at: 1, need: 0xFF },
-            Query { place: 10, at: 4, need: 0xFF },
-            Query { place: 10, at: 6, need: 0 },
+            Query {
+                place: 6,
+                at: 3,
+                need: 0xFF,
+            },
+            Query {
+                place: 7,
+                at: 3,
+                need: 0,
+            },
+            Query {
+                place: 5,
+                at: 2,
+                need: 0,
+            },
+            Query {
+                place: 5,
+                at: 1,
+                need: 0xFF,
+            },
+            Query {
+                place: 10,
+                at: 4,
+                need: 0xFF,
+            },
+            Query {
+                place: 10,
+                at: 6,
+                need: 0,
+            },
         ],
         bytes: &[],
     },
@@ -101,39 +151,101 @@ const ROWS: [Row; 7] = [
         words: &[0x0008_0437, 0x0004_2503, 0x05D0_0893, 0x0000_0073],
         registers: &[],
         bytes: &[
-            Query { place: 0x8_0000, at: 1, need: 0xFF },
-            Query { place: 0x8_0000, at: 0, need: 0xFF },
-            Query { place: 0x8_0000, at: 2, need: 0 },
-            Query { place: 0x8_0001, at: 1, need: 0 },
+            Query {
+                place: 0x8_0000,
+                at: 1,
+                need: 0xFF,
+            },
+            Query {
+                place: 0x8_0000,
+                at: 0,
+                need: 0xFF,
+            },
+            Query {
+                place: 0x8_0000,
+                at: 2,
+                need: 0,
+            },
+            Query {
+                place: 0x8_0001,
+                at: 1,
+                need: 0,
+            },
         ],
     },
     // lui s0, 0x80; lb t0, 0(s0); srli a0, t0, 24: copies of the sign alone
     Row {
-        words: &[0x0008_0437, 0x0004_0283, 0x0182_D513, 0x05D0_0893, 0x0000_0073],
-        registers: &[Query { place: 5, at: 2, need: 0xFF00_0000 }],
-        bytes: &[Query { place: 0x8_0000, at: 1, need: 0x80 }],
+        words: &[
+            0x0008_0437,
+            0x0004_0283,
+            0x0182_D513,
+            0x05D0_0893,
+            0x0000_0073,
+        ],
+        registers: &[Query {
+            place: 5,
+            at: 2,
+            need: 0xFF00_0000,
+        }],
+        bytes: &[Query {
+            place: 0x8_0000,
+            at: 1,
+            need: 0x80,
+        }],
     },
     // addi t0, zero, 3; addi t1, zero, 2; sll a0, t0, t1
     Row {
-        words: &[0x0030_0293, 0x0020_0313, 0x0062_9533, 0x05D0_0893, 0x0000_0073],
+        words: &[
+            0x0030_0293,
+            0x0020_0313,
+            0x0062_9533,
+            0x05D0_0893,
+            0x0000_0073,
+        ],
         registers: &[
-            Query { place: 6, at: 2, need: 0x1F },
-            Query { place: 5, at: 2, need: 0x3F },
+            Query {
+                place: 6,
+                at: 2,
+                need: 0x1F,
+            },
+            Query {
+                place: 5,
+                at: 2,
+                need: 0x3F,
+            },
         ],
         bytes: &[],
     },
     // lui t0, 0x10; jalr zero, 12(t0)
     Row {
-        words: &[0x0001_02B7, 0x00C2_8067, 0x0000_0013, 0x05D0_0893, 0x0000_0073],
-        registers: &[Query { place: 5, at: 1, need: 0xFFFF_FFFE }],
+        words: &[
+            0x0001_02B7,
+            0x00C2_8067,
+            0x0000_0013,
+            0x05D0_0893,
+            0x0000_0073,
+        ],
+        registers: &[Query {
+            place: 5,
+            at: 1,
+            need: 0xFFFF_FFFE,
+        }],
         bytes: &[],
     },
     // addi a0, zero, 5; rdinstret a0
     Row {
         words: &[0x0050_0513, 0xC020_2573, 0x05D0_0893, 0x0000_0073],
         registers: &[
-            Query { place: 10, at: 1, need: 0 },
-            Query { place: 10, at: 2, need: 0xFF },
+            Query {
+                place: 10,
+                at: 1,
+                need: 0,
+            },
+            Query {
+                place: 10,
+                at: 2,
+                need: 0xFF,
+            },
         ],
         bytes: &[],
     },
