@@ -3,3 +3,4 @@ mod Retold
 mod ByStatus
 mod Runs
 mod Chains
+mod Rams

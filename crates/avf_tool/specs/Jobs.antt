@@ -5,7 +5,7 @@ use Rattle.avf_tool.specs.declared.command.Command.TheVariants.{Run as run_comma
 use Rattle.avf_tool.specs.Words.{ImageRun, Job, Run}
 
 abbrev pub image_run_of : RunWords → ImageRun
-image_run_of r = record { image = r.image.now; budget = r.budget }
+image_run_of r = record { image = r.image.now; budget = r.budget; shape = r.shape }
 
 abbrev pub job_of : Command → Job
 job_of (run_command r) = Run (image_run_of r)

@@ -1,9 +1,9 @@
 // The texts of the short commands.
 ghost use Rattle.std.specs.Prelude.{◌≡◌, IfOk, string_bytes};
-ghost use Rattle.avf_tool.specs.Texts.{end_number, end_word, output_text, trace_text};
+ghost use Rattle.avf_tool.specs.Texts.{end_number, end_word, output_text, ended_text, shown};
 
 use avf_base::End;
-use rv_isa::Trace;
+use run_log::Recorded;
 use std::alloc::{AllocError, Global};
 
 fn end_word(end: End) -> &'static str
@@ -34,13 +34,13 @@ fn output_text(alloc: Global, output: &[u8]) -> Result<String, AllocError>
     }
 }
 
-/// The text of `run`: what the program put, how it ended, and how many instructions it took.
-pub fn trace_text(alloc: Global, trace: &Trace) -> Result<String, AllocError>
-    ensures { IfOk result (λ text. string_bytes text ≡ trace_text trace.now) }
+/// The text of `run`: what the program put, how it ended, and how many instructions were retired.
+pub fn run_text(alloc: Global, run: &Recorded<'_>) -> Result<String, AllocError>
+    ensures { IfOk result (λ text. string_bytes text ≡ ended_text (shown run.now)) }
 {
-    let output = output_text(alloc, trace.output())?;
-    let word = end_word(trace.end());
-    let number = end_number(trace.end());
-    let instructions = trace.len();
+    let output = output_text(alloc, run.output())?;
+    let word = end_word(run.end());
+    let number = end_number(run.end());
+    let instructions = run.instructions();
     format!(in alloc; "output {output}\nend {word} {number}\ninstructions {instructions}\n")
 }
