@@ -1,4 +1,6 @@
 pub mod Cycle
+pub mod Facts
+pub mod FlipLaw
 pub mod Memory
 pub mod Parts
 pub mod Pipeline

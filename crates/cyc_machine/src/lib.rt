@@ -8,6 +8,7 @@
 mod accessors;
 mod cached_memory;
 mod execute;
+mod facts;
 mod fate;
 mod front_end;
 mod machine;
@@ -19,6 +20,7 @@ mod report;
 mod strikes;
 
 pub use cached_memory::CachedMemory;
+pub use facts::flip_law;
 pub use fate::Fate;
 pub use machine::Machine;
 pub use memory_stage::Served;
@@ -26,3 +28,6 @@ pub use parts::Parts;
 pub use port::{Move, PortLatch};
 pub use registers::{ProgramCounter, RegisterFile};
 pub use report::CycleReport;
+
+#[cfg(test)]
+mod tests;

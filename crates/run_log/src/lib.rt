@@ -9,3 +9,6 @@ mod recording;
 
 pub use recorded::Recorded;
 pub use recording::{RecordError, record, record_shaped};
+
+#[cfg(test)]
+mod tests;

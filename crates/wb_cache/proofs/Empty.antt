@@ -1,17 +1,13 @@
 -- A new cache holds nothing.
-use Rattle.std.proofs.Common.{◌≡◌, ◌⊎◌, inl, inr, ℕ, zero, suc, ◌+◌, ◌-◌, ◌*◌, ◌^◌, ◌<◌, ◌≤◌, Bool, true, false, cond, List, length, get_or, arith, ap, refl, sym, ◌∙◌}
+use Rattle.std.proofs.Common.{◌≡◌, ℕ, zero, suc, ◌+◌, ◌-◌, ◌*◌, ◌^◌, ◌<◌, Bool, true, false, cond, get_or, arith, refl}
 use Rattle.std.specs.Prelude.{replicate, nat_lt}
-use Rattle.std.specs.List.{All}
-use mathlib.Core.Path.{fun_ext}
-use Rattle.std.proofs.lemmas.Bool.{cases_lt}
-use Rattle.std.proofs.lemmas.Bool.Decides.{nat_tests}
 use Rattle.std.proofs.lemmas.List.{length-replicate}
 use Rattle.std.proofs.lemmas.List.Elements.{All-replicate}
 use Rattle.std.proofs.lemmas.Nat.{pow_pos}
 use Rattle.bit_field.specs.declared.shapes.Shape.{Shape}
 use Rattle.bit_field.specs.Shapes.{IsShape, tag_bits, slots as slot_count}
-use Rattle.wb_cache.specs.Contents.{Contents, IsSized, IsContents, Slot, empty, slots, slot_at, slot_of, no_slot}
-use Rattle.wb_cache.proofs.Slots.{same_slot, slots-inside, slots-outside}
+use Rattle.wb_cache.specs.Contents.{IsSized, IsContents, Slot, empty, slots, slot_at, no_slot}
+use Rattle.wb_cache.proofs.Slots.{same_slot}
 
 pub same_everywhere : {A : Type 0} (n i : ℕ) (a : A) → get_or (replicate n a) i a ≡ a
 same_everywhere zero i a = refl

@@ -1,24 +1,20 @@
 -- The slots and main memory after a refill: the victim is written back where it is valid and dirty, the line stands in its
 -- slot, and every other slot stays.
-use Rattle.std.proofs.Common.{◌≡◌, ◌≢◌, ◌⊎◌, inl, inr, ℕ, ◌+◌, ◌-◌, ◌*◌, ◌/◌, ◌%◌, ◌<◌, ◌≤◌, Bool, true, false, cond, List, length, arith, ap, refl, sym, ◌∙◌}
-use Rattle.std.specs.Prelude.{slice_index, slice_index_or, slice_range, ◌==◌, ◌&&◌, nat_lt}
+use Rattle.std.proofs.Common.{◌≡◌, ◌≢◌, inl, inr, ℕ, ◌+◌, ◌*◌, ◌<◌, ◌≤◌, true, false, cond, List, length, arith, refl, ◌∙◌}
+use Rattle.std.specs.Prelude.{slice_index, nat_lt}
 use Rattle.std.specs.List.{replace_range}
-use Rattle.std.proofs.Math.Nat.{div-add-mod}
-use Rattle.std.proofs.lemmas.Bool.{cases_lt, cases_eq}
+use Rattle.std.proofs.lemmas.Bool.{cases_lt}
 use Rattle.std.proofs.lemmas.Bool.Decides.{nat_tests}
 use Rattle.std.proofs.lemmas.List.{get_or-set_same, get_or-set_other}
-use mathlib.Core.Path.{fun_ext}
-use Rattle.bit_field.specs.declared.shapes.Shape.{Shape}
-use Rattle.bit_field.specs.Shapes.{slots as slot_count}
-use Rattle.elf_load.specs.Image.{LoadedImage, IsImage, in_ram}
-use Rattle.wb_cache.specs.Changes.{put_slot, filled_slot, ram_byte, slot_written_back}
-use Rattle.wb_cache.specs.Contents.{Contents, IsSized, Slot, slots, slot_at, slot_of}
-use Rattle.wb_cache.specs.Lookup.{set_of, tag_of, line_of}
-use Rattle.wb_cache.specs.Refill.{filled, refilled, written_back, memory_refilled, line_bytes, put_line, way_for}
-use Rattle.wb_cache.proofs.Ram.{line_bytes-read, length-line_bytes, put_line-read, length-put_line}
-use Rattle.wb_cache.proofs.Ranges.{replaced-in, replaced-off, range-read, length-range}
+use Rattle.elf_load.specs.Image.{LoadedImage, IsImage}
+use Rattle.wb_cache.specs.Changes.{put_slot, filled_slot, ram_byte}
+use Rattle.wb_cache.specs.Contents.{Contents, IsSized, slots, slot_at, slot_of}
+use Rattle.wb_cache.specs.Lookup.{set_of, tag_of}
+use Rattle.wb_cache.specs.Refill.{filled, line_bytes}
+use Rattle.wb_cache.proofs.Ram.{line_bytes-read, length-line_bytes}
+use Rattle.wb_cache.proofs.Ranges.{replaced-in, replaced-off}
 use Rattle.wb_cache.proofs.Sizes.{slot_below}
-use Rattle.wb_cache.proofs.Slots.{slots-changed, same_slot, valid-inside, dirty-inside, tag-inside, byte-inside}
+use Rattle.wb_cache.proofs.Slots.{slots-changed, same_slot}
 use Rattle.wb_cache.proofs.Written.{byte_by}
 
 filled_byte : (image : LoadedImage) (line l o : ℕ) (memory bytes : List ℕ) → IsImage image → length memory ≡ length image.ram → 16 * l + 16 ≤ length bytes → cond (nat_lt o 16) (slice_index (replace_range bytes (16 * l) (16 * l + 16) (line_bytes image line memory)) (16 * l + o)) 0 ≡ cond (nat_lt o 16) (ram_byte image memory (16 * line + o)) 0

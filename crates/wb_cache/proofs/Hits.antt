@@ -1,6 +1,6 @@
 -- What the calls on a line come to, on a hit and on a miss.
-use Rattle.std.proofs.Common.{◌≡◌, ℕ, ◌/◌, ◌%◌, refl, sym}
-use Rattle.std.specs.Prelude.{Option, Some, None}
+use Rattle.std.proofs.Common.{◌≡◌, ℕ, ◌/◌, ◌%◌, sym}
+use Rattle.std.specs.Prelude.{Some, None}
 use Rattle.wb_cache.specs.Contents.{Contents, slots}
 use Rattle.wb_cache.specs.Lookup.{way_of, set_of}
 use Rattle.wb_cache.specs.Access.{word_of, byte_of, word_at, read, written, put, touched}

@@ -1,18 +1,16 @@
 -- Every call keeps the lengths of the arrays and the widths of bytes and tags.
-use Rattle.std.proofs.Common.{◌≡◌, ◌⊎◌, inl, inr, ℕ, zero, suc, ◌+◌, ◌-◌, ◌*◌, ◌/◌, ◌%◌, ◌^◌, ◌<◌, ◌≤◌, Bool, true, false, cond, List, length, arith, ap, refl, sym, ◌∙◌, ◌++◌, take, drop}
+use Rattle.std.proofs.Common.{◌≡◌, ℕ, zero, suc, ◌+◌, ◌-◌, ◌*◌, ◌^◌, ◌<◌, Bool, true, false, cond, List, length, arith, refl, ◌++◌, take, drop}
 use Rattle.std.proofs.Math.ListN.{length-set, set}
-use Rattle.std.specs.Int.{w32, to_le_bytes}
 use Rattle.std.specs.List.{All, replace_range}
-use Rattle.std.specs.Prelude.{Option, Some, None, slice_range, replicate, slice_index, slice_index_or}
+use Rattle.std.specs.Prelude.{Option, Some, None, slice_range, replicate}
 use Rattle.std.proofs.lemmas.List.Elements.{All-set, All-append, All-take, All-drop, All-replicate}
 use Rattle.bit_field.proofs.CacheShape.{tag_below}
 use Rattle.bit_field.specs.Shapes.{tag_bits, slots as slot_count}
 use Rattle.elf_load.specs.Image.{LoadedImage, IsImage, in_ram}
 use Rattle.wb_cache.specs.Access.{put, put_word, put_lane, touched, has_lane, lane_byte, read, written, found, on_hit}
-use Rattle.wb_cache.specs.Contents.{Contents, IsSized, IsContents, slots, slot_of, no_slot}
+use Rattle.wb_cache.specs.Contents.{Contents, IsContents, slots, slot_of}
 use Rattle.wb_cache.specs.Lookup.{set_of, tag_of}
 use Rattle.wb_cache.specs.Refill.{filled, refilled, memory_refilled, line_bytes, place_of, way_for}
-use Rattle.wb_cache.specs.Replacement.{used}
 use Rattle.wb_cache.proofs.Calls.{length-after_refill}
 use Rattle.wb_cache.proofs.Lengths.{sized-same, length-used, length-put_word, length-replace}
 use Rattle.wb_cache.proofs.Ram.{length-line_bytes}

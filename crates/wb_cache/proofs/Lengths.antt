@@ -6,7 +6,7 @@ use Rattle.std.proofs.lemmas.Grind.{common_steps}
 use Rattle.std.specs.List.{replace_range}
 use Rattle.bit_field.specs.declared.shapes.Shape.{Shape}
 use Rattle.wb_cache.specs.Contents.{Contents, IsSized}
-use Rattle.wb_cache.specs.Access.{put_lane, put_word, has_lane, lane_byte}
+use Rattle.wb_cache.specs.Access.{put_lane, put_word}
 use Rattle.wb_cache.specs.Replacement.{used}
 
 pub length-put_lane : (place mask value lane : ℕ) (bytes : List ℕ) → length (put_lane place mask value lane bytes) ≡ length bytes

@@ -1,5 +1,5 @@
 -- The sizes that a shape gives.
-use Rattle.std.proofs.Common.{◌≡◌, ◌⊎◌, inl, inr, ℕ, ◌+◌, ◌-◌, ◌*◌, ◌/◌, ◌%◌, ◌^◌, ◌<◌, ◌≤◌, arith}
+use Rattle.std.proofs.Common.{◌≡◌, ◌⊎◌, ℕ, ◌+◌, ◌-◌, ◌*◌, ◌/◌, ◌%◌, ◌^◌, ◌<◌, ◌≤◌, arith}
 use Rattle.bit_field.specs.declared.shapes.Shape.{Shape}
 use Rattle.bit_field.specs.Shapes.{IsShape, slots as slot_count, tag_bits, index_bits}
 use Rattle.wb_cache.specs.Contents.{slot_of}

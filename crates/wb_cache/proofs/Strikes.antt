@@ -4,7 +4,6 @@ use Rattle.std.proofs.Math.ListN.{length-set}
 use Rattle.std.specs.Prelude.{bit_xor}
 use Rattle.std.specs.List.{All}
 use Rattle.std.specs.Int.{bit_at}
-use Rattle.bit_field.specs.Arrays.{bit_of_flags, flip_flag}
 use Rattle.bit_field.specs.Laws.{FlipLaws}
 use Rattle.bit_field.specs.Shapes.{bits_in, tag_bits, slots as slot_count}
 use Rattle.bit_field.specs.declared.shapes.Shape.{Shape}
@@ -12,8 +11,8 @@ use Rattle.bit_field.specs.declared.places.Structure.{Structure}
 use Rattle.bit_field.specs.declared.places.Structure.TheVariants.{CData, CTag, CValid, CDirty, CLru}
 use Rattle.bit_field.proofs.Arrays.{laws_of_list, laws_of_number}
 use Rattle.bit_field.proofs.Flags.{laws_of_flags}
-use Rattle.wb_cache.specs.Bits.{bit_in, flip_in, IsCache, bit_of_tags, flip_tag, flip_data}
-use Rattle.wb_cache.specs.Contents.{Contents, IsSized, IsContents}
+use Rattle.wb_cache.specs.Bits.{bit_in, flip_in, IsCache, bit_of_tags, flip_tag}
+use Rattle.wb_cache.specs.Contents.{Contents, IsContents}
 use Rattle.wb_cache.specs.Laws.{data_laws}
 use Rattle.wb_cache.proofs.Lengths.{sized-same}
 

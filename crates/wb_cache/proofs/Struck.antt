@@ -1,15 +1,14 @@
 -- The slots after a strike: one slot differs in one bit, and every other stays.
-use Rattle.std.proofs.Common.{◌≡◌, ◌≢◌, ◌⊎◌, inl, inr, ℕ, ◌+◌, ◌-◌, ◌*◌, ◌/◌, ◌%◌, ◌^◌, ◌<◌, ◌≤◌, Bool, true, false, not, cond, List, length, get_or, arith, ap, refl, sym, ◌∙◌}
-use Rattle.std.proofs.Math.ListN.{set}
-use Rattle.std.specs.Prelude.{slice_index, slice_index_or, bit_xor, ◌==◌, ◌&&◌, nat_lt}
+use Rattle.std.proofs.Common.{◌≡◌, ◌≢◌, ◌⊎◌, inl, inr, ℕ, ◌+◌, ◌*◌, ◌/◌, ◌%◌, ◌^◌, ◌<◌, ◌≤◌, false, cond, List, length, arith, ap, refl, sym, ◌∙◌}
+use Rattle.std.specs.Prelude.{slice_index, bit_xor, ◌==◌, nat_lt}
 use Rattle.std.proofs.lemmas.Bool.{cases_lt, cases_eq}
 use Rattle.std.proofs.lemmas.Bool.Decides.{nat_tests}
 use Rattle.std.proofs.lemmas.List.{get_or-set_same, get_or-set_other}
 use Rattle.bit_field.specs.Shapes.{bits_in, tag_bits, slots as slot_count}
 use Rattle.bit_field.specs.declared.places.Structure.TheVariants.{CData, CTag, CValid, CDirty, CLru}
-use Rattle.wb_cache.specs.Bits.{flip_in, flip_data, flip_tag}
+use Rattle.wb_cache.specs.Bits.{flip_in, flip_data}
 use Rattle.wb_cache.specs.Changes.{put_slot, with_data_bit, with_tag_bit, with_valid_bit, with_dirty_bit, set_at, way_at}
-use Rattle.wb_cache.specs.Contents.{Contents, IsSized, Slot, slots, slot_at, slot_of}
+use Rattle.wb_cache.specs.Contents.{Contents, IsSized, Slot, slots, slot_at}
 use Rattle.wb_cache.proofs.Sizes.{slot-split, tag_slot}
 use Rattle.wb_cache.proofs.Slots.{slots-inside, slots-changed, same_slot}
 

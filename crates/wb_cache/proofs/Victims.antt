@@ -1,13 +1,13 @@
 -- A victim and a way that was found are ways of the shape.
-use Rattle.std.proofs.Common.{◌≡◌, ◌⊎◌, inl, inr, ℕ, ◌+◌, ◌*◌, ◌<◌, Bool, true, false, not, cond, List, arith, refl}
-use Rattle.std.specs.Prelude.{Option, Some, None, ◌==◌, nat_lt}
+use Rattle.std.proofs.Common.{◌≡◌, ◌⊎◌, inl, inr, ℕ, ◌+◌, ◌<◌, Bool, true, false, not, cond, List, arith, refl}
+use Rattle.std.specs.Prelude.{Option, Some, None, ◌==◌}
 use Rattle.bit_field.specs.Fields.{number_of}
 use Rattle.bit_field.specs.Shapes.{IsShape}
 use Rattle.bit_field.specs.declared.shapes.Shape.{Shape}
 use Rattle.wb_cache.specs.Contents.{Slot}
 use Rattle.wb_cache.specs.Lookup.{way_of, first_below, holds, set_of}
 use Rattle.wb_cache.specs.Replacement.{victim, first_invalid, replaced, way_or}
-use Rattle.wb_cache.proofs.Find.{first_below-some, IsFirst}
+use Rattle.wb_cache.proofs.Find.{first_below-some}
 
 number_of-below : (b : Bool) → number_of b < 2
 number_of-below true = omega arith

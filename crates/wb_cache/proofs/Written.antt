@@ -1,15 +1,14 @@
 -- The slots after a write: one slot is written, and every other stays.
-use Rattle.std.proofs.Common.{◌≡◌, ◌≢◌, ◌⊎◌, inl, inr, ℕ, ◌+◌, ◌-◌, ◌*◌, ◌/◌, ◌%◌, ◌<◌, ◌≤◌, Bool, true, false, cond, List, length, arith, ap, refl, sym, ◌∙◌}
-use Rattle.std.specs.Prelude.{slice_index, slice_index_or, ◌==◌, ◌&&◌, nat_lt}
+use Rattle.std.proofs.Common.{◌≡◌, ◌≢◌, ◌⊎◌, inl, inr, ℕ, ◌+◌, ◌*◌, ◌/◌, ◌%◌, ◌<◌, ◌≤◌, true, false, cond, length, arith, ap, refl, sym, ◌∙◌}
+use Rattle.std.specs.Prelude.{slice_index, ◌==◌, ◌&&◌, nat_lt}
 use Rattle.std.proofs.lemmas.Bool.{cases_lt}
 use Rattle.std.proofs.lemmas.Bool.Decides.{nat_tests}
 use Rattle.std.proofs.lemmas.List.{get_or-set_same, get_or-set_other}
-use Rattle.bit_field.specs.Shapes.{slots as slot_count}
 use Rattle.wb_cache.specs.Access.{put, put_word, touched, has_lane, lane_byte}
 use Rattle.wb_cache.specs.Changes.{put_slot, written_slot}
-use Rattle.wb_cache.specs.Contents.{Contents, IsSized, Slot, slots, slot_at, slot_of}
+use Rattle.wb_cache.specs.Contents.{Contents, IsSized, slots, slot_at, slot_of}
 use Rattle.wb_cache.proofs.Sizes.{slot_below}
-use Rattle.wb_cache.proofs.Slots.{slots-changed, same_slot, valid-inside, dirty-inside, tag-inside, byte-inside, byte-past}
+use Rattle.wb_cache.proofs.Slots.{slots-changed, same_slot, valid-inside, tag-inside, byte-inside, byte-past}
 use Rattle.wb_cache.proofs.Words.{put_word-here, put_word-other}
 
 -- the nodes are no part of a slot

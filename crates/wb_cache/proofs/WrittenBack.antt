@@ -1,12 +1,11 @@
 -- Main memory after a write-back, byte by byte, and the whole refill.
-use Rattle.std.proofs.Common.{◌≡◌, ℕ, ◌+◌, ◌-◌, ◌*◌, ◌/◌, ◌%◌, ◌<◌, ◌≤◌, Bool, true, false, cond, List, length, arith, ap, refl, sym, ◌∙◌}
+use Rattle.std.proofs.Common.{◌≡◌, ℕ, ◌+◌, ◌*◌, ◌/◌, ◌%◌, ◌<◌, Bool, true, false, cond, List, length, arith, ap, refl, sym, ◌∙◌}
 use Rattle.std.specs.Prelude.{slice_index, slice_index_or, slice_range, ◌==◌, ◌&&◌}
 use mathlib.Core.Path.{fun_ext}
-use Rattle.bit_field.specs.declared.shapes.Shape.{Shape}
 use Rattle.bit_field.specs.Shapes.{slots as slot_count}
 use Rattle.elf_load.specs.Image.{LoadedImage, IsImage, in_ram}
 use Rattle.wb_cache.specs.Changes.{put_slot, filled_slot, ram_byte, slot_written_back}
-use Rattle.wb_cache.specs.Contents.{Contents, IsSized, Slot, slots, slot_of}
+use Rattle.wb_cache.specs.Contents.{Contents, IsSized, slots, slot_of}
 use Rattle.wb_cache.specs.Lookup.{set_of, tag_of, line_of}
 use Rattle.wb_cache.specs.Refill.{refilled, written_back, memory_refilled, put_line, way_for}
 use Rattle.wb_cache.proofs.Filled.{slots-filled}

@@ -1,8 +1,7 @@
 -- Reading and writing a word of a line that the cache holds. A word of a line is 0 to 3.
-use Rattle.std.specs.Prelude.{ℕ, ◌+◌, ◌*◌, ◌/◌, ◌%◌, ◌==◌, ◌&&◌, Bool, true, cond, List, [], ◌∷◌, Option, Some, None, slice_index, slice_set}
+use Rattle.std.specs.Prelude.{ℕ, ◌+◌, ◌*◌, ◌/◌, ◌%◌, ◌==◌, Bool, true, cond, List, [], ◌∷◌, Option, Some, None, slice_index, slice_set}
 use Rattle.std.specs.Int.{w32, bit_at, to_le_bytes, from_le_bytes}
 use Rattle.std.specs.Option.{option_map}
-use Rattle.bit_field.specs.declared.shapes.Shape.{Shape}
 use Rattle.wb_cache.specs.Contents.{Contents, Slot, slot_of, slots}
 use Rattle.wb_cache.specs.Lookup.{set_of, way_of}
 use Rattle.wb_cache.specs.Replacement.{used}

@@ -1,5 +1,5 @@
 -- What the cache holds: five arrays over its line slots. The slot of a way of a set is ways * set + way.
-use Rattle.std.specs.Prelude.{◌≡◌, ℕ, ◌+◌, ◌-◌, ◌*◌, ◌^◌, ◌<◌, ◌==◌, Bool, false, ◌&&◌, cond, nat_lt, List, length, replicate, All, slice_index, slice_index_or}
+use Rattle.std.specs.Prelude.{◌≡◌, ℕ, ◌+◌, ◌-◌, ◌*◌, ◌^◌, ◌<◌, Bool, false, ◌&&◌, cond, nat_lt, List, length, replicate, All, slice_index, slice_index_or}
 use Rattle.bit_field.specs.declared.shapes.Shape.{Shape}
 use Rattle.bit_field.specs.Shapes.{IsShape, tag_bits, slots as slot_count}
 

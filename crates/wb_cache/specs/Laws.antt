@@ -1,12 +1,12 @@
 -- The laws of a flip, for the bytes and for the tags of the cache.
-use Rattle.std.specs.Prelude.{◌≡◌, ◌⊎◌, ℕ, ◌+◌, ◌-◌, ◌*◌, ◌/◌, ◌%◌, ◌^◌, ◌<◌, List, length, All, bit_xor, refl, slice_set}
-use Rattle.std.proofs.Common.{arith, sym, ap, inl, inr}
+use Rattle.std.specs.Prelude.{◌≡◌, ◌⊎◌, ℕ, ◌-◌, ◌*◌, ◌/◌, ◌^◌, ◌<◌, length, All, bit_xor, refl}
+use Rattle.std.proofs.Common.{arith}
 use Rattle.std.proofs.Math.ListN.{length-set}
 use Rattle.std.specs.Int.{bit_at}
 use Rattle.bit_field.specs.Laws.{FlipLaws}
-use Rattle.bit_field.proofs.Arrays.{laws_of_list, laws_of_number, laws_of_numbers, ShowsNumbers, bit_of_numbers}
+use Rattle.bit_field.proofs.Arrays.{laws_of_list, laws_of_number, laws_of_numbers, ShowsNumbers}
 use Rattle.wb_cache.specs.Bits.{bit_of_data, flip_data}
-use Rattle.wb_cache.specs.Tags.{TagArray, IsTagArray, IsFit, bit_count, bit_of, flipped}
+use Rattle.wb_cache.specs.Tags.{IsFit, bit_count, bit_of, flipped}
 
 pub data_laws : FlipLaws (All (λ b. b < 2 ^ 8)) (λ xs. length xs * 8) bit_of_data flip_data
 data_laws = laws_of_list 8 0 (λ b. b < 2 ^ 8) bit_at (λ v j. bit_xor v (2 ^ j)) (omega arith) (laws_of_number 8)

@@ -1,11 +1,11 @@
 -- A refill: the victim of the line's set goes back to main memory where it is valid and dirty, and the line is read in its
 -- place. RAM begins and ends at multiples of 65,536, so the 16 bytes of a line are all in RAM or all outside.
-use Rattle.std.specs.Prelude.{ℕ, ◌+◌, ◌-◌, ◌*◌, ◌&&◌, Bool, true, false, cond, List, replicate, slice_index, slice_index_or, slice_range, slice_set}
+use Rattle.std.specs.Prelude.{ℕ, ◌+◌, ◌-◌, ◌*◌, ◌&&◌, true, false, cond, List, replicate, slice_index, slice_index_or, slice_range, slice_set}
 use Rattle.std.specs.List.{replace_range}
 use Rattle.elf_load.specs.Image.{LoadedImage, in_ram}
 use Rattle.wb_cache.specs.Contents.{Contents, slot_of, slots}
 use Rattle.wb_cache.specs.Lookup.{set_of, tag_of, line_of}
-use Rattle.wb_cache.specs.Replacement.{victim, used}
+use Rattle.wb_cache.specs.Replacement.{victim}
 use Rattle.wb_cache.specs.Access.{touched}
 
 -- the place in main memory of the first byte of a line

@@ -1,0 +1,37 @@
+// What holds of every machine.
+
+ghost use Rattle.cyc_machine.specs.FlipLaw.{FlipsBack, FlipsNoOther, FlipsThatBit};
+
+use crate::machine::Machine;
+use bit_field::Struck;
+
+impl Machine<'_> {
+    ghost use Rattle.cyc_machine.specs.Facts.{IsMachine};
+
+    /// Changes nothing; says what holds of every machine: the sizes and widths of its structures, and the length of main
+    /// memory.
+    pub fn is_machine(&self)
+        ensures { IsMachine self.now }
+    {
+        self.parts.image.is_image();
+        self.parts.storage.cache.is_cache();
+        self.parts.pc.fits();
+        self.parts.npc.fits();
+        self.parts.predictor.fits();
+        self.parts.buffer.fits();
+        self.parts.decoded.fits();
+        self.parts.executed.fits();
+        self.parts.written.fits();
+        self.parts.registers.fits();
+        self.parts.stores.fits();
+        self.parts.port.fits();
+    }
+}
+
+/// Changes nothing; its contract is the law of strikes: a flip at a place changes that bit, and no other bit of any of the
+/// sixteen structures, and a second flip restores the state.
+pub fn flip_law()
+    ensures flips { FlipsThatBit }
+    ensures others { FlipsNoOther }
+    ensures restores { FlipsBack }
+{}

@@ -1,0 +1,167 @@
+// What no clause says: that each call succeeds with ample memory, a small program's cycles one by one, and the places of the
+// structures at their corners. The cycles are worked out by hand from the written rules: an instruction is fetched in one
+// cycle, decoded in the next, leaves EX in the third and M in the fourth.
+ghost use Rattle.std.specs.Prelude.{◌≡◌, ◌<◌};
+
+use super::*;
+use avf_base::{End, Steps, counter};
+use bit_field::{Place, Structure};
+use elf_load::{Image, load};
+use std::alloc::Global;
+use std::fs::Files;
+use std::marker::Brand;
+use std::process::Abort;
+use std::sync::ledger::{Blank, Ledger};
+use std::test::Fail;
+
+// The ELF32 header and one program header: an executable for RISC-V with one executable segment at 0x10000, which stands
+// at offset 84 and is entered at its start. The segment's two sizes, at bytes 68 and 72, are left 0.
+const HEADERS: [u32; 21] = [
+    0x464C_457F,
+    0x0001_0101,
+    0,
+    0,
+    0x00F3_0002,
+    1,
+    0x1_0000,
+    52,
+    0,
+    0,
+    0x0020_0034,
+    1,
+    0,
+    1,
+    84,
+    0x1_0000,
+    0x1_0000,
+    0,
+    0,
+    5,
+    4,
+];
+
+fn push_word(file: &mut Vec<u8>, word: u32) -> Result<(), Fail> {
+    file.extend_from_slice(&word.to_le_bytes())?;
+    Ok(())
+}
+
+// An image that is these words, in one executable segment.
+fn flat(alloc: Global, words: &[u32]) -> Result<Image, Fail> {
+    let mut file = Vec::new(alloc);
+    for (place, word) in HEADERS.iter().enumerate() {
+        let size = if place == 17 || place == 18 {
+            words.len().wrapping_mul(4) % 65_536
+        } else {
+            0
+        };
+        push_word(&mut file, *word | size as u32)?;
+    }
+    for word in words {
+        push_word(&mut file, *word)?;
+    }
+    Ok(load(alloc, &file, 0x10_0000)?)
+}
+
+// addi a0, zero, 7; addi a7, zero, 93; ecall
+const THREE: [u32; 3] = [0x0070_0513, 0x05D0_0893, 0x0000_0073];
+
+fn step<L: Ledger>(
+    rt: &impl Abort,
+    machine: &mut Machine<'_>,
+    steps: &mut Steps<L>,
+) -> CycleReport {
+    assert!(rt; !machine.ended());
+    assert!(rt; machine.cycle() < 1000);
+    machine.step(steps)
+}
+
+fn check_cycles<R: Abort + Files, L: Ledger>(
+    rt: &R,
+    alloc: Global,
+    blank: Blank,
+) -> Result<(), Fail>
+    requires name { blank.name ≡ L.name }
+    requires parts { blank.parts ≡ L.parts }
+    requires some { 0 < L.parts }
+{
+    let mut steps = counter::<R, L>(rt, blank);
+    let image = flat(alloc, &THREE)?;
+    let mut machine = Machine::new(alloc, &image)?;
+    for (cycle, issued, retired, end) in [
+        (0, None, false, None),
+        (1, None, false, None),
+        (2, Some(0x4000), false, None),
+        (3, Some(0x4001), true, None),
+        (4, Some(0x4002), true, None),
+        (5, Some(0x4003), true, Some(End::Exit(7))),
+    ] {
+        assert_eq!(rt; machine.cycle(), cycle, "{cycle}");
+        let report = step(rt, &mut machine, &mut steps);
+        assert_eq!(rt; report.issued, issued, "{cycle}");
+        assert_eq!(rt; report.retired, retired, "{cycle}");
+        assert_eq!(rt; report.end, end, "{cycle}");
+    }
+    assert!(rt; machine.ended());
+    assert_eq!(rt; machine.issued_count(), 4);
+    Ok(())
+}
+
+#[test]
+fn cycles_one_by_one(rt: HostRuntime) -> Result<(), Fail> {
+    check_cycles::<HostRuntime, Brand>(&rt, rt.alloc(), Blank::new(1))
+}
+
+fn bit_of(rt: &impl Abort, machine: &Machine<'_>, place: &Place) -> bool {
+    assert!(rt; machine.in_range(place));
+    machine.bit(place)
+}
+
+fn flip(rt: &impl Abort, machine: &mut Machine<'_>, place: &Place) {
+    assert!(rt; machine.in_range(place));
+    machine.flip(place);
+}
+
+// Two flips restore the bit, and the place behind the last is out of range.
+fn check_place(rt: &impl Abort, machine: &mut Machine<'_>, structure: Structure, bits: u32) {
+    assert!(rt;
+        !machine.in_range(&Place {
+            structure,
+            bit: bits
+        })
+    );
+    for bit in [0, bits.saturating_sub(1)] {
+        let place = Place { structure, bit };
+        let before = bit_of(rt, machine, &place);
+        flip(rt, machine, &place);
+        assert_eq!(rt; bit_of(rt, machine, &place), !before, "{bit}");
+        flip(rt, machine, &place);
+        assert_eq!(rt; bit_of(rt, machine, &place), before, "{bit}");
+    }
+}
+
+#[test]
+fn flips_at_the_corners(rt: HostRuntime) -> Result<(), Fail> {
+    let image = flat(rt.alloc(), &THREE)?;
+    let mut machine = Machine::new(rt.alloc(), &image)?;
+    for (structure, bits) in [
+        (Structure::Pc, 30),
+        (Structure::Npc, 30),
+        (Structure::Bht, 128),
+        (Structure::Btb, 912),
+        (Structure::Ib, 256),
+        (Structure::IdEx, 153),
+        (Structure::ExMem, 79),
+        (Structure::MemWb, 37),
+        (Structure::Rf, 992),
+        (Structure::Sb, 264),
+        (Structure::Port, 6),
+        (Structure::CData, 8192),
+        (Structure::CTag, 1472),
+        (Structure::CValid, 64),
+        (Structure::CDirty, 64),
+        (Structure::CLru, 32),
+    ] {
+        check_place(&rt, &mut machine, structure, bits);
+    }
+    Ok(())
+}

@@ -1,0 +1,134 @@
+// What no clause says: that a run is recorded with ample memory, and the rows of two small programs. The rows are worked out by
+// hand from the written rules.
+ghost use Rattle.std.specs.Prelude.{◌≡◌, ◌<◌};
+
+use super::*;
+use avf_base::{End, Steps, counter};
+use elf_load::{Image, load};
+use std::alloc::Global;
+use std::fs::Files;
+use std::marker::Brand;
+use std::process::Abort;
+use std::sync::ledger::{Blank, Ledger};
+use std::test::Fail;
+use wb_cache::EventKind;
+
+// The ELF32 header and one program header: an executable for RISC-V with one executable segment at 0x10000, which stands
+// at offset 84 and is entered at its start. The segment's two sizes, at bytes 68 and 72, are left 0.
+const HEADERS: [u32; 21] = [
+    0x464C_457F,
+    0x0001_0101,
+    0,
+    0,
+    0x00F3_0002,
+    1,
+    0x1_0000,
+    52,
+    0,
+    0,
+    0x0020_0034,
+    1,
+    0,
+    1,
+    84,
+    0x1_0000,
+    0x1_0000,
+    0,
+    0,
+    5,
+    4,
+];
+
+fn push_word(file: &mut Vec<u8>, word: u32) -> Result<(), Fail> {
+    file.extend_from_slice(&word.to_le_bytes())?;
+    Ok(())
+}
+
+// An image that is these words, in one executable segment.
+fn flat(alloc: Global, words: &[u32]) -> Result<Image, Fail> {
+    let mut file = Vec::new(alloc);
+    for (place, word) in HEADERS.iter().enumerate() {
+        let size = if place == 17 || place == 18 {
+            words.len().wrapping_mul(4) % 65_536
+        } else {
+            0
+        };
+        push_word(&mut file, *word | size as u32)?;
+    }
+    for word in words {
+        push_word(&mut file, *word)?;
+    }
+    Ok(load(alloc, &file, 0x10_0000)?)
+}
+
+// lui s0, 0x80; lw t0, 0(s0); lw t1, 512(s0); lw t2, 1024(s0); lw a0, 0(s0); addi a7, zero, 93; ecall
+const CONFLICT: [u32; 7] = [
+    0x0008_0437,
+    0x0004_2283,
+    0x2004_2303,
+    0x4004_2383,
+    0x0004_2503,
+    0x05D0_0893,
+    0x0000_0073,
+];
+
+// rdcycle a0; addi a7, zero, 93; ecall
+const CLOCK: [u32; 3] = [0xC000_2573, 0x05D0_0893, 0x0000_0073];
+
+fn check_conflict<L: Ledger>(
+    rt: &impl Abort,
+    alloc: Global,
+    steps: &mut Steps<L>,
+) -> Result<(), Fail> {
+    let image = flat(alloc, &CONFLICT)?;
+    assert!(rt; image.ram().len() == 1_048_576);
+    assert!(rt; matches!(record(alloc, &image, 45, steps), Err(RecordError::NoEnd)));
+    let run = record(alloc, &image, 46, steps)?;
+    assert_eq!(rt; run.cycles(), 46);
+    assert_eq!(rt; run.instructions(), 7);
+    assert_eq!(rt; run.end(), End::Exit(0));
+    assert!(rt; run.output().is_empty());
+    assert!(rt; run.clocks().is_empty());
+    assert_eq!(rt; run.events().len(), 12);
+    for (place, cycle) in [4, 12, 13, 14, 22, 23, 24, 32, 33, 34, 42, 43].iter().enumerate() {
+        let kind = match place % 3 {
+            0 => EventKind::Miss,
+            1 => EventKind::Fill,
+            _ => EventKind::Read,
+        };
+        assert!(rt; place < run.events().len());
+        assert_eq!(rt; run.events()[place].cycle, *cycle, "{place}");
+        assert_eq!(rt; run.events()[place].kind, kind, "{place}");
+    }
+    Ok(())
+}
+
+fn check_clock<L: Ledger>(
+    rt: &impl Abort,
+    alloc: Global,
+    steps: &mut Steps<L>,
+) -> Result<(), Fail> {
+    let image = flat(alloc, &CLOCK)?;
+    assert!(rt; image.ram().len() == 1_048_576);
+    let run = record(alloc, &image, 6, steps)?;
+    assert_eq!(rt; run.end(), End::Exit(2));
+    assert!(rt; run.clocks() == [2].as_slice());
+    assert!(rt; run.issues.len() == 4);
+    assert_eq!(rt; run.issued_at(0), 2);
+    Ok(())
+}
+
+fn check_all<R: Abort + Files, L: Ledger>(rt: &R, alloc: Global, blank: Blank) -> Result<(), Fail>
+    requires name { blank.name ≡ L.name }
+    requires parts { blank.parts ≡ L.parts }
+    requires some { 0 < L.parts }
+{
+    let mut steps = counter::<R, L>(rt, blank);
+    check_conflict(rt, alloc, &mut steps)?;
+    check_clock(rt, alloc, &mut steps)
+}
+
+#[test]
+fn worked_rows_are_recorded(rt: HostRuntime) -> Result<(), Fail> {
+    check_all::<HostRuntime, Brand>(&rt, rt.alloc(), Blank::new(1))
+}
