@@ -1,0 +1,8 @@
+use Rattle.std.proofs.Common.{◌≡◌, ℕ, ◌<◌, ◌^◌, cond, leb}
+use Rattle.std.specs.Prelude.{Some, ◌&&◌}
+use Rattle.need_pass.specs.Links.{has_byte}
+use Rattle.need_pass.specs.Tables.{byte_mask}
+use Rattle.need_pass.proofs.byte_histories.clear_bytes.Given as goal
+
+abbrev pub invariant-loop-n : goal.invariant-loop-n
+invariant-loop-n l = (p i : ℕ) → p < 2 ^ 32 → byte_mask l.histories.entries p i ≡ cond (has_byte (Some (l.addr, l.n)) p && leb i l.at) 0 (byte_mask l.initial.histories.entries p i)

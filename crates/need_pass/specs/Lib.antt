@@ -1,0 +1,8 @@
+pub mod Histories
+pub mod Law
+pub mod Links
+pub mod Masks
+pub mod Needed
+pub mod Places
+pub mod Steps
+pub mod Tables
