@@ -10,9 +10,12 @@ use Rattle.elf_load.specs.Image.{LoadedImage}
 use Rattle.elf_load.specs.Meaning.{image_of}
 use Rattle.elf_load.specs.Refusal.{first_refusal}
 use Rattle.run_log.specs.Run.{RecordedRun}
+use Rattle.dead_class.specs.Classes.{classes_of}
+use Rattle.rv_isa.specs.Runs.{EndedRun as Trace}
+use Rattle.avf_tool.specs.Traces.{ended_trace}
 use Rattle.avf_tool.specs.Runs.{EndedRun, ended_run}
-use Rattle.avf_tool.specs.Texts.{ended_text, shown}
-use Rattle.avf_tool.specs.Words.{Job, Run}
+use Rattle.avf_tool.specs.Texts.{dead_text, ended_text, shown}
+use Rattle.avf_tool.specs.Words.{Job, Run, Dead}
 
 -- a text, or a refusal
 pub data Answer : Type 0 where
@@ -48,9 +51,24 @@ on_run shape image budget next = unless_endless (ended_run image shape budget) n
 abbrev pub run_on : Shape → ℕ → LoadedImage → Answer
 run_on shape budget image = on_run shape image budget (λ run. Text (ended_text run))
 
+abbrev pub unless_traceless : Option Trace → (Trace → Answer) → Answer
+unless_traceless (Some trace) next = next trace
+unless_traceless None next = Refused NoEnd
+
+-- the instruction set's trace of an image, of as many instructions as the machine retired, with the clock values that the
+-- machine's run gave
+abbrev pub on_trace : LoadedImage → EndedRun → (Trace → Answer) → Answer
+on_trace image run next = unless_traceless (ended_trace image run.clocks run.instructions) next
+
+-- `dead` on an image: the classes of the trace's instructions
+abbrev pub dead_on : Shape → ℕ → LoadedImage → Answer
+dead_on shape budget image =
+    on_run shape image budget (λ run. on_trace image run (λ trace. Text (dead_text (classes_of trace.entries))))
+
 -- what a command answers where its file holds these contents
 abbrev pub answer : Job → List ℕ → Answer
 answer (Run r) contents = on_image r.shape contents (run_on r.shape r.budget)
+answer (Dead r) contents = on_image r.shape contents (dead_on r.shape r.budget)
 
 -- A refusal that was worked out of the contents, or want of memory.
 abbrev pub WorkedOut : Cause → Answer → Refusal → Type 0
@@ -78,6 +96,19 @@ Ran shape image budget (Ok run) = ended_run image shape budget ≡ Some (shown r
 Ran shape image budget (Err NoEnd) = ended_run image shape budget ≡ None
 Ran shape image budget (Err OutOfMemory) = ⊤
 Ran shape image budget (Err refusal) = ⊥
+
+-- the trace of an image with these clock values in at most so many instructions, or that they didn't end it
+abbrev pub Traced : LoadedImage → List ℕ → ℕ → Result Trace Refusal → Type 0
+Traced image clocks limit (Ok trace) = ended_trace image clocks limit ≡ Some trace
+Traced image clocks limit (Err NoEnd) = ended_trace image clocks limit ≡ None
+Traced image clocks limit (Err OutOfMemory) = ⊤
+Traced image clocks limit (Err refusal) = ⊥
+
+-- the text of the classes of a trace, or want of memory
+abbrev pub IsDeadText : Trace → Result (Vec ℕ Global) Refusal → Type 0
+IsDeadText trace (Ok text) = text.items ≡ dead_text (classes_of trace.entries)
+IsDeadText trace (Err OutOfMemory) = ⊤
+IsDeadText trace (Err refusal) = ⊥
 
 -- why a file wasn't read, where a longer one is refused so
 abbrev pub WasRead : Cause → Refusal → ℕ → Option (List ℕ) → ℕ → ℕ → Refusal → Type 0

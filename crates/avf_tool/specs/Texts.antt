@@ -1,9 +1,12 @@
 -- The texts of the short commands.
-use Rattle.std.specs.Prelude.{ℕ, List, [], ◌∷◌, codes, decimal}
+use Rattle.std.specs.Prelude.{ℕ, List, [], ◌∷◌, codes, count_by, decimal, length}
 use Rattle.hex.specs.Hex.{encode_lower}
 use Rattle.avf_base.specs.Refusals.{joined}
 use Rattle.avf_base.specs.declared.end.End.{End}
 use Rattle.avf_base.specs.declared.end.End.TheVariants.{Exit, Trap}
+use Rattle.dead_class.specs.Classes.{is_class}
+use Rattle.dead_class.specs.declared.class.DeadClass.{DeadClass}
+use Rattle.dead_class.specs.declared.class.DeadClass.TheVariants.{Needed, Nop, FddReg, TddReg, FddMem, TddMem}
 use Rattle.run_log.specs.Run.{RecordedRun}
 use Rattle.avf_tool.specs.Runs.{EndedRun}
 
@@ -33,4 +36,18 @@ ended_text run = run_text run.output run.end run.instructions
 
 -- what `run` shows of a record
 abbrev pub shown : RecordedRun → EndedRun
-shown r = record { output = r.output; end = r.end; instructions = r.instructions }
+shown r = record { output = r.output; end = r.end; instructions = r.instructions; clocks = r.clocks }
+
+abbrev pub count_of : DeadClass → List DeadClass → List ℕ
+count_of class classes = decimal (count_by (is_class class) classes)
+
+-- `dead`: how many instructions there were, and how many of each class
+abbrev pub dead_text : List DeadClass → List ℕ
+dead_text classes = joined (
+    codes "instructions " ∷ decimal (length classes)
+    ∷ codes "\nneeded " ∷ count_of Needed classes
+    ∷ codes "\nnop " ∷ count_of Nop classes
+    ∷ codes "\nfdd-reg " ∷ count_of FddReg classes
+    ∷ codes "\ntdd-reg " ∷ count_of TddReg classes
+    ∷ codes "\nfdd-mem " ∷ count_of FddMem classes
+    ∷ codes "\ntdd-mem " ∷ count_of TddMem classes ∷ codes "\n" ∷ [])

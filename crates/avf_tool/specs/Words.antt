@@ -15,6 +15,7 @@ pub record ImageRun : Type 0 where
 -- a command with its arguments
 pub data Job : Type 0 where
   Run : ImageRun → Job
+  Dead : ImageRun → Job
 
 -- IMAGE BUDGET: any word that isn't empty, and a number from 1 to 1,000,000
 abbrev pub image_run : Shape → List ℕ → List ℕ → Option ImageRun
@@ -26,10 +27,16 @@ abbrev pub run_job : Shape → List (List ℕ) → Option Job
 run_job shape (image ∷ budget ∷ []) = option_map (λ r. Run r) (image_run shape image budget)
 run_job shape args = None
 
+-- `dead IMAGE BUDGET`
+abbrev pub dead_job : Shape → List (List ℕ) → Option Job
+dead_job shape (image ∷ budget ∷ []) = option_map (λ r. Dead r) (image_run shape image budget)
+dead_job shape args = None
+
 -- a command on a machine of a shape
 abbrev pub command_on : Shape → List (List ℕ) → Option Job
 command_on shape (name ∷ args) =
-    if bytes_eq name (codes "run") then run_job shape args else None
+    if bytes_eq name (codes "run") then run_job shape args else
+    (if bytes_eq name (codes "dead") then dead_job shape args else None)
 command_on shape [] = None
 
 -- SETS: 16, 32, 64 or 128
@@ -66,6 +73,7 @@ texts words = map string_bytes words
 -- what a command reads, where that is told
 abbrev pub told_to : Job → (List ℕ → Option (List ℕ)) → Option (List ℕ)
 told_to (Run r) holds = holds r.image
+told_to (Dead r) holds = holds r.image
 
 -- What a machine can run: the cycles and the shape are in their ranges.
 pub record IsRunnable (run : ImageRun) : Type 0 where
@@ -75,3 +83,4 @@ pub record IsRunnable (run : ImageRun) : Type 0 where
 
 abbrev pub IsDoable : Job → Type 0
 IsDoable (Run r) = IsRunnable r
+IsDoable (Dead r) = IsRunnable r

@@ -2,7 +2,7 @@
 ghost use Rattle.std.specs.Prelude.{◌≡◌, MatchOption, IfSome, Some, None};
 ghost use Rattle.bit_field.specs.Shapes.{IsShape};
 ghost use Rattle.avf_tool.specs.Words as asked;
-ghost use Rattle.avf_tool.specs.Words.{IsDoable, IsRunnable, command_of, command_on, run_job, texts, with_job};
+ghost use Rattle.avf_tool.specs.Words.{IsDoable, IsRunnable, command_of, command_on, dead_job, run_job, texts, with_job};
 ghost use Rattle.avf_tool.specs.Jobs.{image_run_of, job_of};
 
 use crate::numbers::number;
@@ -24,6 +24,8 @@ pub struct ImageRun<'a> {
 pub enum Command<'a> {
     /// `run IMAGE BUDGET`
     Run(ImageRun<'a>),
+    /// `dead IMAGE BUDGET`
+    Dead(ImageRun<'a>),
 }
 
 fn image_run<'a>(shape: Shape, image: &'a str, budget: &str) -> Option<ImageRun<'a>>
@@ -56,6 +58,20 @@ fn run_command(shape: Shape, args: &[String]) -> Option<Command<'_>>
     }
 }
 
+fn dead_command(shape: Shape, args: &[String]) -> Option<Command<'_>>
+    requires { IsShape shape }
+    ensures is { MatchOption result (dead_job shape (texts args.now) ≡ None) (λ c. dead_job shape (texts args.now) ≡ Some (job_of c)) }
+    ensures does { IfSome result (λ c. IsDoable (job_of c)) }
+{
+    match args {
+        [image, budget] => {
+            let run = image_run(shape, image.as_str(), budget.as_str())?;
+            Some(Command::Dead(run))
+        }
+        _ => None,
+    }
+}
+
 // The command that these words are, on a machine of this shape.
 fn command_on(shape: Shape, words: &[String]) -> Option<Command<'_>>
     requires { IsShape shape }
@@ -66,6 +82,8 @@ fn command_on(shape: Shape, words: &[String]) -> Option<Command<'_>>
         [name, args @ ..] => {
             if name.as_str() == "run" {
                 run_command(shape, args)
+            } else if name.as_str() == "dead" {
+                dead_command(shape, args)
             } else {
                 None
             }

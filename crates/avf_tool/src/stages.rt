@@ -3,12 +3,13 @@ ghost use Rattle.std.specs.Prelude.{◌≡◌, ◌≤◌, List, ℕ, length, IfO
 ghost use Rattle.avf_base.specs.Refusals.{ByContents, cause_of};
 ghost use Rattle.avf_base.specs.declared.refusal.Refusal.TheVariants.{BadImage};
 ghost use Rattle.bit_field.specs.Shapes.{IsShape};
-ghost use Rattle.avf_tool.specs.Answers.{IsLoaded, IsRead, Ran, image_limit, ram_size};
+ghost use Rattle.avf_tool.specs.Answers.{IsLoaded, IsRead, Ran, Traced, image_limit, ram_size};
 
 use avf_base::{ReadError, Refusal, Shelf, Steps, read_file};
 use bit_field::Shape;
 use elf_load::{Image, LoadError, load};
 use run_log::{RecordError, Recorded, record_shaped};
+use rv_isa::{IsaError, Trace, run_clocked};
 use std::alloc::Global;
 use std::sync::ledger::Ledger;
 
@@ -81,5 +82,23 @@ pub fn run_image<'i, L: Ledger>(
         Ok(run) => Ok(run),
         Err(RecordError::NoEnd) => Err(Refusal::NoEnd),
         Err(RecordError::OutOfMemory) => Err(Refusal::OutOfMemory),
+    }
+}
+
+/// The trace of an image with these clock values, of at most `limit` instructions.
+#[tactic(auto, using(crate::proofs::Traces::traced, crate::proofs::Traces::endless))]
+pub fn trace_image<M: Ledger>(
+    alloc: Global,
+    image: &Image,
+    clocks: &[u32],
+    limit: u32,
+    applies: &mut Steps<M>,
+) -> Result<Trace, Refusal>
+    ensures { Traced image.now clocks.now limit result }
+{
+    match run_clocked(alloc, image, limit, clocks, applies) {
+        Ok(trace) => Ok(trace),
+        Err(IsaError::NoEnd) => Err(Refusal::NoEnd),
+        Err(IsaError::OutOfMemory) => Err(Refusal::OutOfMemory),
     }
 }

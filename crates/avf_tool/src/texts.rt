@@ -1,8 +1,10 @@
 // The texts of the short commands.
-ghost use Rattle.std.specs.Prelude.{◌≡◌, IfOk, string_bytes};
+ghost use Rattle.std.specs.Prelude.{◌≡◌, IfOk, length, string_bytes};
 ghost use Rattle.avf_tool.specs.Texts.{end_number, end_word, output_text, ended_text, shown};
+ghost use Rattle.avf_tool.specs.Texts as texts;
 
 use avf_base::End;
+use dead_class::{DeadClass, DeadTable};
 use run_log::Recorded;
 use std::alloc::{AllocError, Global};
 
@@ -43,4 +45,18 @@ pub fn run_text(alloc: Global, run: &Recorded<'_>) -> Result<String, AllocError>
     let number = end_number(run.end());
     let instructions = run.instructions();
     format!(in alloc; "output {output}\nend {word} {number}\ninstructions {instructions}\n")
+}
+
+/// The text of `dead`: how many instructions there were, and how many of each class.
+pub fn dead_text(alloc: Global, instructions: u32, table: &DeadTable) -> Result<String, AllocError>
+    requires { instructions ≡ length table.now }
+    ensures { IfOk result (λ text. string_bytes text ≡ texts.dead_text table.now) }
+{
+    let needed = table.count(DeadClass::Needed);
+    let nop = table.count(DeadClass::Nop);
+    let fdd_reg = table.count(DeadClass::FddReg);
+    let tdd_reg = table.count(DeadClass::TddReg);
+    let fdd_mem = table.count(DeadClass::FddMem);
+    let tdd_mem = table.count(DeadClass::TddMem);
+    format!(in alloc; "instructions {instructions}\nneeded {needed}\nnop {nop}\nfdd-reg {fdd_reg}\ntdd-reg {tdd_reg}\nfdd-mem {fdd_mem}\ntdd-mem {tdd_mem}\n")
 }
