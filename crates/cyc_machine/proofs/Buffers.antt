@@ -1,9 +1,8 @@
 -- What the buffers hold between the two steps of a cycle.
-use Rattle.std.proofs.Common.{◌≡◌, ℕ, ◌-◌, ◌<◌, ◌≤◌, List, [], ◌∷◌, ◌++◌, length, drop, Bool, true, false, not, Option, Some, None, refl, sym, ap, ◌∙◌, arith, length-append}
-use Rattle.std.specs.Prelude.{All, if◌then◌else◌, nat_lt}
-use Rattle.std.proofs.lemmas.Bool.Decides.{nat_tests}
+use Rattle.std.proofs.Common.{◌≡◌, ◌≤◌, List, [], ◌∷◌, length, drop, Bool, true, false, arith}
+use Rattle.std.specs.Prelude.{All, if◌then◌else◌}
 use Rattle.std.proofs.lemmas.List.Elements.{All-drop}
-use Rattle.elf_load.specs.Image.{LoadedImage, word_in_ram}
+use Rattle.elf_load.specs.Image.{LoadedImage}
 use Rattle.inst_buf.specs.Entry.{Entry as Fetched}
 use Rattle.inst_buf.specs.Buffer.{entries, packed as packed_entries}
 use Rattle.inst_buf.proofs.Packed.{entries-packed, entries_valid}
@@ -11,8 +10,8 @@ use Rattle.store_buf.specs.Entry.{Entry}
 use Rattle.store_buf.specs.Pending.{is_pending, oldest, packed, pending, younger}
 use Rattle.store_buf.proofs.Packed.{pending-packed, pending_used}
 use Rattle.cyc_machine.specs.declared.port.Move.{Move}
-use Rattle.cyc_machine.specs.declared.port.Move.TheVariants.{Rests, Reads, Drains, Misses, Waits, Leaves, Fills}
-use Rattle.cyc_machine.specs.Memory.{is_stray, kept_stores, without_stray}
+use Rattle.cyc_machine.specs.declared.port.Move.TheVariants.{Drains}
+use Rattle.cyc_machine.specs.Memory.{is_stray, kept_stores}
 
 -- the entries behind the first, packed
 pub entries-later : (slots : List Fetched) → entries (packed_entries (drop 1 (entries slots))) ≡ drop 1 (entries slots)

@@ -1,10 +1,10 @@
 -- One cycle of the machine: each structure's next value, main memory, and what is reported, from the whole old state.
-use Rattle.std.specs.Prelude.{ℕ, ◌+◌, ◌/◌, ◌%◌, ◌^◌, ◌&&◌, ◌||◌, Bool, true, false, is_some, if◌then◌else◌, List, Option, Some, None}
+use Rattle.std.specs.Prelude.{ℕ, ◌+◌, ◌/◌, ◌%◌, ◌&&◌, Bool, is_some, Option, Some, None}
 use Rattle.avf_base.specs.declared.end.End.{End}
 use Rattle.rv_table.specs.Accesses.{lane_mask, load_size}
 use Rattle.rv_table.specs.Effects.{byte_put}
 use Rattle.rv_table.specs.declared.action.Action.{Action}
-use Rattle.rv_table.specs.declared.action.Action.TheVariants.{Nothing, Writes, Loads, Stores, Puts, Exits, Traps}
+use Rattle.rv_table.specs.declared.action.Action.TheVariants.{Loads}
 use Rattle.rv_isa.specs.Instruction.{end_of}
 use Rattle.pipe_latch.specs.Latches.{DecodedLatch}
 use Rattle.pipe_latch.specs.LatchedActions.{action_of}
@@ -12,16 +12,15 @@ use Rattle.wb_cache.specs.Contents.{Contents}
 use Rattle.wb_cache.specs.declared.event.EventKind.{EventKind}
 use Rattle.inst_buf.specs.Buffer.{entries, packed as packed_entries}
 use Rattle.predictor.specs.Tables.{predicted}
-use Rattle.store_buf.specs.Entry.{Entry as Pending}
 use Rattle.store_buf.specs.Pending.{packed as packed_stores, pending}
 use Rattle.wb_cache.specs.Lookup.{set_of}
 use Rattle.wb_cache.specs.declared.event.CacheEvent.{CacheEvent}
 use Rattle.wb_cache.specs.declared.event.EventKind.TheVariants.{Read, Write, Miss, Fill}
 use Rattle.cyc_machine.specs.declared.port.Move.{Move}
-use Rattle.cyc_machine.specs.declared.port.Move.TheVariants.{Rests, Reads, Drains, Misses, Waits, Leaves, Fills}
+use Rattle.cyc_machine.specs.declared.port.Move.TheVariants.{Reads, Drains, Misses, Fills}
 use Rattle.cyc_machine.specs.declared.memory_stage.Served.{Served}
 use Rattle.cyc_machine.specs.declared.fate.Fate.{Fate}
-use Rattle.cyc_machine.specs.declared.fate.Fate.TheVariants.{Absent, Dropped, Stays, Goes}
+use Rattle.cyc_machine.specs.declared.fate.Fate.TheVariants.{Goes}
 use Rattle.cyc_machine.specs.Memory.{cache_after, load_client, memory_after, move_of, port_after, result_after, served, store_client, stores_after, word_read}
 use Rattle.cyc_machine.specs.Pipeline.{decoded_after, entries_after, executed_after, fate_of, issued_after, lesson, npc_after, pc_after, trained_by, written_registers}
 use Rattle.cyc_machine.specs.State.{State}

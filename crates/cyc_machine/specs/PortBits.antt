@@ -1,5 +1,5 @@
 -- The bits of the port's latch: count 0 to 4, owner 5 (0 load, 1 store).
-use Rattle.std.specs.Prelude.{◌≡◌, ℕ, Bool, List, [], ◌∷◌, refl, slice_index}
+use Rattle.std.specs.Prelude.{◌≡◌, ℕ, Bool, List, [], ◌∷◌, slice_index}
 use Rattle.std.proofs.Common.{ap, sym, ◌∙◌}
 use Rattle.bit_field.specs.Fields.{flip_field, flip_bool, number_of, flip_row, bit_of_row, IsRow}
 use Rattle.bit_field.specs.Laws.{FlipLaws}

@@ -1,5 +1,5 @@
 -- The bits of the program counters and of the register file.
-use Rattle.std.specs.Prelude.{ℕ, ◌^◌, ◌<◌, ◌*◌, List, bit_xor}
+use Rattle.std.specs.Prelude.{ℕ, ◌^◌, ◌<◌, List, bit_xor}
 use Rattle.std.specs.Int.{bit_at}
 use Rattle.std.proofs.Common.{arith}
 use Rattle.bit_field.specs.Arrays.{bit_of_array, flip_array, IsArray}

@@ -1,7 +1,7 @@
 -- The machine's state: the sixteen structures that can be struck, main memory, the image, and the numbers that go with a
 -- run.
-use Rattle.std.specs.Prelude.{◌≡◌, ℕ, ◌/◌, ◌^◌, ◌<◌, ◌≤◌, Bool, false, List, length, replicate, All}
-use Rattle.elf_load.specs.Image.{LoadedImage, IsImage}
+use Rattle.std.specs.Prelude.{ℕ, ◌/◌, Bool, false, List, replicate}
+use Rattle.elf_load.specs.Image.{LoadedImage}
 use Rattle.bit_field.specs.declared.shapes.Shape.{Shape}
 use Rattle.pipe_latch.specs.Latches.{DecodedLatch, ExecutedLatch, ResultLatch, no_decoded, no_executed, no_result}
 use Rattle.inst_buf.specs.Entry.{Entry as Fetched, no_entry as no_fetched}

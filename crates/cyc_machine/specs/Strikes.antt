@@ -1,6 +1,6 @@
 -- The bits of the machine by place, and the flip of one.
-use Rattle.std.specs.Prelude.{◌≡◌, ◌≢◌, ℕ, ◌-◌, ◌<◌}
-use Rattle.bit_field.specs.Shapes.{IsPlaceIn, bits_in}
+use Rattle.std.specs.Prelude.{ℕ}
+use Rattle.bit_field.specs.Shapes.{IsPlaceIn}
 use Rattle.bit_field.specs.declared.places.Place.{Place}
 use Rattle.bit_field.specs.declared.places.Structure.{Structure}
 use Rattle.bit_field.specs.declared.places.Structure.TheVariants.{Pc, Npc, Bht, Btb, Ib, IdEx, ExMem, MemWb, Rf, Sb, Port, CData, CTag, CValid, CDirty, CLru}

@@ -1,4 +1,10 @@
-// Which instructions of a run are dead.
+// Which instructions of a run are dead: first-level and transitive dynamic deadness, through registers and memory.
+//
+// - class: the classes;
+// - readers: what reads a value before it is overwritten;
+// - registers, bytes: the readers of the values in registers and in memory;
+// - judge: the class of one instruction;
+// - table: the walk back through the run and the table that it leaves.
 #![tactic(auto)]
 
 mod bytes;
@@ -10,3 +16,6 @@ mod table;
 
 pub use class::DeadClass;
 pub use table::{DeadTable, classify};
+
+#[cfg(test)]
+mod tests;

@@ -77,6 +77,7 @@ pub fn classify(
 ) -> Result<DeadTable, OutOfMemory>
     requires { IsNeedOf trace.now.entries needs.now }
     ensures exact { IfOk result (λ t. t ≡ classes_of trace.now.entries) }
+    ensures length { IfOk result (λ t. length t ≡ length trace.now.entries) }
     ensures law { UnreadIsUnneeded trace.now.entries needs.now }
 {
     let mut registers = unread(alloc)?;

@@ -1,5 +1,5 @@
 -- The machine's run on an image from reset, and what is recorded of it.
-use Rattle.std.specs.Prelude.{◌≡◌, ◌<◌, ◌+◌, ℕ, zero, suc, Bool, true, false, ◌&&◌, List, [], ◌∷◌, ◌++◌, length, Option, Some, None, if◌then◌else◌}
+use Rattle.std.specs.Prelude.{◌≡◌, ◌<◌, ◌+◌, ℕ, zero, suc, Bool, true, false, ◌&&◌, List, [], ◌∷◌, ◌++◌, Option, Some, None, if◌then◌else◌}
 use Rattle.avf_base.specs.declared.end.End.{End}
 use Rattle.elf_load.specs.Image.{LoadedImage}
 use Rattle.bit_field.specs.declared.shapes.Shape.{Shape}
@@ -7,7 +7,7 @@ use Rattle.rv_table.specs.Actions.{is_clocked}
 use Rattle.pipe_latch.specs.Latches.{op_of_latch}
 use Rattle.wb_cache.specs.declared.event.CacheEvent.{CacheEvent}
 use Rattle.cyc_machine.specs.declared.fate.Fate.{Fate}
-use Rattle.cyc_machine.specs.declared.fate.Fate.TheVariants.{Absent, Dropped, Stays, Goes}
+use Rattle.cyc_machine.specs.declared.fate.Fate.TheVariants.{Goes}
 use Rattle.cyc_machine.specs.Cycle.{cycle, end_in, event_in, fate, put_in, retires}
 use Rattle.cyc_machine.specs.State.{State, reset}
 

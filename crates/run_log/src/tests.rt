@@ -90,7 +90,10 @@ fn check_conflict<L: Ledger>(
     assert!(rt; run.output().is_empty());
     assert!(rt; run.clocks().is_empty());
     assert_eq!(rt; run.events().len(), 12);
-    for (place, cycle) in [4, 12, 13, 14, 22, 23, 24, 32, 33, 34, 42, 43].iter().enumerate() {
+    for (place, cycle) in [4, 12, 13, 14, 22, 23, 24, 32, 33, 34, 42, 43]
+        .iter()
+        .enumerate()
+    {
         let kind = match place % 3 {
             0 => EventKind::Miss,
             1 => EventKind::Fill,

@@ -1,4 +1,4 @@
-use Rattle.std.proofs.Common.{◌≡◌, ap, ◌∙◌}
+use Rattle.std.proofs.Common.{ap, ◌∙◌}
 use Rattle.inst_buf.specs.Buffer.{entries, packed}
 use Rattle.cyc_machine.specs.Pipeline.{filled}
 use Rattle.cyc_machine.proofs.Buffers.{entries-later}

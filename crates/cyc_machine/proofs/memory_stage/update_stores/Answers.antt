@@ -1,5 +1,5 @@
-use Rattle.std.proofs.Common.{◌≡◌, ◌<◌, ap, ◌∙◌, sym, subst, arith, length}
-use Rattle.std.specs.Prelude.{◌++◌, nat_lt, true}
+use Rattle.std.proofs.Common.{◌≡◌, ◌<◌, ap, ◌∙◌, arith, length}
+use Rattle.std.specs.Prelude.{◌++◌, nat_lt}
 use Rattle.std.proofs.lemmas.Bool.Decides.{nat_tests}
 use Rattle.store_buf.specs.Pending.{packed, pending}
 use Rattle.cyc_machine.specs.Memory.{appended, kept_stores, stores_after}

@@ -1,10 +1,13 @@
-use Rattle.std.proofs.Common.{◌≡◌, ℕ, ◌+◌, ◌-◌, ◌<◌, length, drop, ap, sym, ◌∙◌, subst, arith}
+use Rattle.std.proofs.Common.{◌≡◌, ℕ, ◌+◌, ◌-◌, ◌<◌, List, length, drop, ap, sym, ◌∙◌, subst, arith}
 use Rattle.std.proofs.lemmas.List.{take_at, reverse-reverse}
 use Rattle.dead_class.proofs.Kept.{kept_none, kept_by, classes-length}
 use Rattle.dead_class.proofs.Unread.{unread_is_unneeded}
 use Rattle.dead_class.specs.Classes.{classes_of}
 use Rattle.dead_class.specs.Readers.{IsKept, class_from}
 use Rattle.std.specs.Prelude.{reverse}
+use Rattle.dead_class.specs.declared.class.DeadClass.{DeadClass}
+use Rattle.dead_class.specs.declared.readers.Readers.{Readers}
+use Rattle.rv_isa.specs.declared.effect.Retired.{Retired}
 use Rattle.dead_class.proofs.table.classify.Goals as goal
 
 pub loop-at-init : goal.loop-at-init
@@ -27,12 +30,22 @@ loop-at-preserved c =
     let kept_count : length after ≡ c.loop-at.registers.len = omega (arith, count, c.loop-at.invariant.count, c.loop-at.registers.ok.0) in
     rw (take_at after (drop (length after) c.loop-at.registers.items) c.loop-at.registers.len kept_count, c.in_ok-push.ensures.items) (kept_by entries before after bytes c.pass_bytes.new.bytes.entries c.loop-at.classes.items at entry class c.one-reader.result c.entry-entry.ensures.entry c.entry-entry.ensures.retired.write kept judged c.one-reader.ensures count c.pass_registers.ensures c.in_ok-pass_bytes.ensures)
 
+-- what is kept of the whole run, turned over
+all_classes : (entries : List Retired) (registers : List Readers) (bytes : List (ℕ × Readers)) (classes reversed : List DeadClass) (at : ℕ) → at ≡ 0 → IsKept entries registers bytes classes at → reversed ≡ reverse classes → reversed ≡ classes_of entries
+all_classes entries registers bytes classes reversed at e kept r =
+    r ∙ ap reverse kept.classes_are ∙ reverse-reverse (classes_of (drop at entries)) ∙ ap (λ n. classes_of (drop n entries)) e
+
 pub invariant_of-result : goal.invariant_of-result
 invariant_of-result c =
     let entries = c.args.trace.now.entries in
-    let at : c.loop-at.at ≡ 0 = omega arith in
-    let all : c.reverse.new.self.items ≡ classes_of entries = c.reverse.ensures.items ∙ ap reverse c.loop-at.invariant.classes_are ∙ reverse-reverse (classes_of (drop c.loop-at.at entries)) ∙ ap (λ n. classes_of (drop n entries)) at in
+    let all = all_classes entries c.loop-at.registers.items c.loop-at.bytes.entries c.loop-at.classes.items c.reverse.new.self.items c.loop-at.at (omega arith) c.loop-at.invariant c.reverse.ensures.items in
     omega (arith, ap length all, classes-length entries, c.len-at.ensures, c.len-at.type_inv)
+
+pub returns-clause-length : goal.returns-clause-length
+returns-clause-length c =
+    let entries = c.args.trace.now.entries in
+    let all = all_classes entries c.loop-at.registers.items c.loop-at.bytes.entries c.loop-at.classes.items c.reverse.new.self.items c.loop-at.at (omega arith) c.loop-at.invariant c.reverse.ensures.items in
+    ap length all ∙ classes-length entries
 
 pub returns-clause-law : goal.returns-clause-law
 returns-clause-law c = unread_is_unneeded c.args.trace.now.entries c.args.needs.now c.requires

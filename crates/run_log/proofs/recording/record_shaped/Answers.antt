@@ -1,4 +1,4 @@
-use Rattle.std.proofs.Common.{◌≡◌, ◌+◌, ◌<◌, ◌≤◌, ℕ, refl, sym, ap, ◌∙◌, subst, arith, add-one}
+use Rattle.std.proofs.Common.{◌+◌, refl, sym, ap, ◌∙◌, subst, arith, add-one}
 use Rattle.rv_table.specs.Actions.{is_clocked}
 use Rattle.pipe_latch.specs.Latches.{op_of_latch}
 use Rattle.run_log.proofs.Keeping.{Kept, Reports, ends, goes_on, starts}

@@ -1,4 +1,4 @@
-use Rattle.std.proofs.Common.{◌≡◌, ◌+◌, ◌≤◌}
+use Rattle.std.proofs.Common.{◌≡◌, ◌+◌}
 use Rattle.run_log.proofs.Keeping.{Kept}
 use Rattle.run_log.proofs.recording.record_shaped.Given as goal
 
