@@ -10,11 +10,10 @@ use Rattle.elf_load.specs.Image.{LoadedImage}
 use Rattle.elf_load.specs.Meaning.{image_of}
 use Rattle.elf_load.specs.Refusal.{first_refusal}
 use Rattle.run_log.specs.Run.{RecordedRun}
-use Rattle.dead_class.specs.Classes.{classes_of}
 use Rattle.rv_isa.specs.Runs.{EndedRun as Trace}
 use Rattle.avf_tool.specs.Traces.{ended_trace}
 use Rattle.avf_tool.specs.Runs.{EndedRun, ended_run}
-use Rattle.avf_tool.specs.Texts.{dead_text, ended_text, shown}
+use Rattle.avf_tool.specs.Texts.{deadness_text, ended_text, shown}
 use Rattle.avf_tool.specs.Words.{Job, Run, Dead}
 
 -- a text, or a refusal
@@ -63,7 +62,7 @@ on_trace image run next = unless_traceless (ended_trace image run.clocks run.ins
 -- `dead` on an image: the classes of the trace's instructions
 abbrev pub dead_on : Shape → ℕ → LoadedImage → Answer
 dead_on shape budget image =
-    on_run shape image budget (λ run. on_trace image run (λ trace. Text (dead_text (classes_of trace.entries))))
+    on_run shape image budget (λ run. on_trace image run (λ trace. Text (deadness_text trace.entries)))
 
 -- what a command answers where its file holds these contents
 abbrev pub answer : Job → List ℕ → Answer
@@ -106,7 +105,7 @@ Traced image clocks limit (Err refusal) = ⊥
 
 -- the text of the classes of a trace, or want of memory
 abbrev pub IsDeadText : Trace → Result (Vec ℕ Global) Refusal → Type 0
-IsDeadText trace (Ok text) = text.items ≡ dead_text (classes_of trace.entries)
+IsDeadText trace (Ok text) = text.items ≡ deadness_text trace.entries
 IsDeadText trace (Err OutOfMemory) = ⊤
 IsDeadText trace (Err refusal) = ⊥
 

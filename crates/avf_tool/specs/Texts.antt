@@ -4,7 +4,9 @@ use Rattle.hex.specs.Hex.{encode_lower}
 use Rattle.avf_base.specs.Refusals.{joined}
 use Rattle.avf_base.specs.declared.end.End.{End}
 use Rattle.avf_base.specs.declared.end.End.TheVariants.{Exit, Trap}
-use Rattle.dead_class.specs.Classes.{is_class}
+use Rattle.rv_isa.specs.declared.effect.Retired.{Retired}
+use Rattle.avf_tool.specs.declared.texts.DeadCounts.{DeadCounts}
+use Rattle.dead_class.specs.Classes.{classes_of, is_class}
 use Rattle.dead_class.specs.declared.class.DeadClass.{DeadClass}
 use Rattle.dead_class.specs.declared.class.DeadClass.TheVariants.{Needed, Nop, FddReg, TddReg, FddMem, TddMem}
 use Rattle.run_log.specs.Run.{RecordedRun}
@@ -38,16 +40,41 @@ ended_text run = run_text run.output run.end run.instructions
 abbrev pub shown : RecordedRun → EndedRun
 shown r = record { output = r.output; end = r.end; instructions = r.instructions; clocks = r.clocks }
 
-abbrev pub count_of : DeadClass → List DeadClass → List ℕ
-count_of class classes = decimal (count_by (is_class class) classes)
+abbrev pub count_of : DeadClass → List DeadClass → ℕ
+count_of class classes = count_by (is_class class) classes
+
+-- how many of these instructions are of each class
+abbrev pub dead_counts : ℕ → List DeadClass → DeadCounts
+dead_counts instructions classes = record {
+  instructions = instructions;
+  needed = count_of Needed classes;
+  nop = count_of Nop classes;
+  fdd_reg = count_of FddReg classes;
+  tdd_reg = count_of TddReg classes;
+  fdd_mem = count_of FddMem classes;
+  tdd_mem = count_of TddMem classes;
+}
 
 -- `dead`: how many instructions there were, and how many of each class
-abbrev pub dead_text : List DeadClass → List ℕ
-dead_text classes = joined (
-    codes "instructions " ∷ decimal (length classes)
-    ∷ codes "\nneeded " ∷ count_of Needed classes
-    ∷ codes "\nnop " ∷ count_of Nop classes
-    ∷ codes "\nfdd-reg " ∷ count_of FddReg classes
-    ∷ codes "\ntdd-reg " ∷ count_of TddReg classes
-    ∷ codes "\nfdd-mem " ∷ count_of FddMem classes
-    ∷ codes "\ntdd-mem " ∷ count_of TddMem classes ∷ codes "\n" ∷ [])
+abbrev pub needed_lines : DeadCounts → List ℕ
+needed_lines counts = joined (
+    codes "instructions " ∷ decimal counts.instructions
+    ∷ codes "\nneeded " ∷ decimal counts.needed
+    ∷ codes "\nnop " ∷ decimal counts.nop ∷ codes "\n" ∷ [])
+
+abbrev pub register_lines : DeadCounts → List ℕ
+register_lines counts = joined (
+    codes "fdd-reg " ∷ decimal counts.fdd_reg
+    ∷ codes "\ntdd-reg " ∷ decimal counts.tdd_reg ∷ codes "\n" ∷ [])
+
+abbrev pub memory_lines : DeadCounts → List ℕ
+memory_lines counts = joined (
+    codes "fdd-mem " ∷ decimal counts.fdd_mem
+    ∷ codes "\ntdd-mem " ∷ decimal counts.tdd_mem ∷ codes "\n" ∷ [])
+
+abbrev pub dead_text : DeadCounts → List ℕ
+dead_text counts = joined (needed_lines counts ∷ register_lines counts ∷ memory_lines counts ∷ [])
+
+-- the same of a trace's instructions
+abbrev pub deadness_text : List Retired → List ℕ
+deadness_text entries = dead_text (dead_counts (length entries) (classes_of entries))

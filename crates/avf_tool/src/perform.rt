@@ -6,7 +6,7 @@ ghost use Rattle.avf_tool.specs.Words.{IsDoable, IsRunnable, told_to};
 
 use crate::command::{Command, ImageRun};
 use crate::stages::{load_image, read_image, run_image, trace_image};
-use crate::texts::{dead_text, run_text};
+use crate::texts::{dead_counts, dead_text, run_text};
 use avf_base::{Refusal, Shelf, Steps};
 use dead_class::classify;
 use need_pass::needs;
@@ -37,7 +37,7 @@ fn dead_of(alloc: Global, trace: &Trace) -> Result<Vec<u8>, Refusal>
 {
     let needs = needs(alloc, trace)?;
     let table = classify(alloc, trace, &needs)?;
-    let text = dead_text(alloc, trace.len(), &table)?;
+    let text = dead_text(alloc, &dead_counts(trace.len(), &table))?;
     Ok(text.into_bytes())
 }
 
