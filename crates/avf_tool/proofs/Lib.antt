@@ -5,3 +5,4 @@ mod Rams
 mod Retold
 mod Runs
 mod Traces
+mod Serving
