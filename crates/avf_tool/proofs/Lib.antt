@@ -1,5 +1,8 @@
-mod Numerals
-mod Retold
 mod ByStatus
-mod Runs
 mod Chains
+mod Numerals
+mod Rams
+mod Retold
+mod Runs
+mod Traces
+mod Serving

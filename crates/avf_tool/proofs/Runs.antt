@@ -1,78 +1,49 @@
--- A run that has ended is the run after any greater number of instructions.
-use Rattle.std.proofs.Common.{◌≡◌, ℕ, zero, suc, ◌<◌, ◌≤◌, List, [], ◌∷◌, length, true, false, Bool, None, Some, refl, sym, ap, ◌∙◌, arith}
-use Rattle.std.specs.Prelude.{is_none, slice_get, if◌then◌else◌}
+-- A record within the budget is the run that ended, and a run without an end is none.
+use Rattle.std.proofs.Common.{◌≡◌, ℕ, zero, suc, ◌+◌, ◌-◌, None, Some, refl, ap, ◌∙◌, subst, arith}
+use Rattle.bit_field.specs.declared.shapes.Shape.{Shape}
+use Rattle.cyc_machine.specs.Cycle.{end_in}
 use Rattle.elf_load.specs.Image.{LoadedImage}
-use Rattle.rv_isa.specs.Effects.{retired_at}
-use Rattle.rv_isa.specs.Instruction.{State, instruction}
-use Rattle.rv_isa.specs.Runs.{EndedRun, IsTrace, after, reset}
-use Rattle.rv_isa.specs.declared.effect.Retired.{Retired}
-use Rattle.avf_tool.specs.Runs.{ended_run, recorded, run_to}
+use Rattle.run_log.specs.Answers.{IsRunOf}
+use Rattle.run_log.specs.Run.{IsRunning, RecordedRun, clocks_below, output_below, retired_below, state_at}
+use Rattle.avf_tool.specs.Runs.{EndedRun, ended_run}
+use Rattle.avf_tool.specs.Texts.{shown}
 
--- a run that has ended stays
-stays : (image : LoadedImage) (n : ℕ) (at : State) → is_none at.stop ≡ false → after image n at ≡ at
-unfolding after
-stays image zero at h = refl
-stays image (suc n) at h = rw h refl
-
--- one instruction further on both sides, unless the run has ended
-further : (image : LoadedImage) (more n : ℕ) (at : State) (going : Bool) → is_none at.stop ≡ going
-    → (is_none (after image n (instruction image at)).stop ≡ false → after image more (instruction image at) ≡ after image n (instruction image at))
-    → is_none (after image (suc n) at).stop ≡ false → after image (suc more) at ≡ after image (suc n) at
-unfolding after
-further image more n at true e ih h = rw e (ih (rw e at h))
-further image more n at false e ih h = rw e refl
-
-reached : (image : LoadedImage) (more n : ℕ) (at : State) → n ≤ more → is_none (after image n at).stop ≡ false → after image more at ≡ after image n at
-unfolding after
-reached image more zero at le h = stays image more at h
-reached image zero (suc n) at le h = absurd (omega (arith, le))
-reached image (suc more) (suc n) at le h =
-    further image more n at (is_none at.stop) refl (reached image more n (instruction image at) (omega (arith, le))) h
-
-goes : (image : LoadedImage) (i : ℕ) (at : State) → at.stop ≡ None → after image (suc i) at ≡ after image i (instruction image at)
-unfolding after
-goes image i at h = ap (λ o. if is_none o then after image i (instruction image at) else at) h
-
-some_is : {A : Type 0} (x y : A) → Some x ≡ Some y → x ≡ y
-some_is x y e = cc
-
--- what is recorded up to the end is the trace's list of instructions
-entries_are : (image : LoadedImage) (more : ℕ) (at : State) (entries : List Retired) → length entries ≤ more
-    → ((i : ℕ) → i < length entries → slice_get entries i ≡ Some (retired_at image (after image i at)))
-    → ((i : ℕ) → i < length entries → (after image i at).stop ≡ None)
-    → is_none (after image (length entries) at).stop ≡ false
-    → recorded image more at ≡ entries
-unfolding after recorded
-entries_are image zero at [] le retired going over = refl
-entries_are image (suc more) at [] le retired going over = rw over refl
-entries_are image zero at (e ∷ es) le retired going over = absurd (omega (arith, le))
-entries_are image (suc more) at (e ∷ es) le retired going over =
-    let first : at.stop ≡ None = going 0 (omega arith) in
-    let head : retired_at image at ≡ e = sym (some_is e (retired_at image at) (retired 0 (omega arith))) in
-    let tail : recorded image more (instruction image at) ≡ es =
-    entries_are image more (instruction image at) es (omega (arith, le))
-    (λ i h. retired (suc i) (omega (arith, h)) ∙ ap (λ s. Some (retired_at image s)) (goes image i at first))
-    (λ i h. ap (λ s. s.stop) (sym (goes image i at first)) ∙ going (suc i) (omega (arith, h)))
-    (ap (λ s. is_none s.stop) (sym (goes image (length es) at first)) ∙ over) in
-    ap (λ o. if is_none o then retired_at image at ∷ recorded image more (instruction image at) else []) first
-    ∙ ap (λ x. x ∷ recorded image more (instruction image at)) head
-    ∙ ap (λ l. e ∷ l) tail
-
--- a trace within the budget is the run
-pub traced : (image : LoadedImage) (budget : ℕ) (run : EndedRun) → length run.entries ≤ budget → IsTrace image [] run → ended_run image budget ≡ Some run
+-- no end, no run
+pub endless : (image : LoadedImage) (shape : Shape) (n : ℕ) → IsRunning image shape n → ended_run image shape n ≡ None
 unfolding ended_run
-traced image budget run le trace =
-    let last : State = after image (length run.entries) (reset image []) in
-    let over : is_none last.stop ≡ false = ap is_none trace.ends in
-    let same : after image budget (reset image []) ≡ last = reached image budget (length run.entries) (reset image []) le over in
-    let stop : (after image budget (reset image [])).stop ≡ Some run.end = ap (λ s. s.stop) same ∙ trace.ends in
-    let output : (after image budget (reset image [])).log.output ≡ run.output = ap (λ s. s.log.output) same ∙ trace.puts in
-    let entries : recorded image budget (reset image []) ≡ run.entries = entries_are image budget (reset image []) run.entries le trace.retired trace.running over in
-    ap (run_to image budget) stop
-    ∙ ap (λ o. Some (record { entries = recorded image budget (reset image []); output = o; end = run.end })) output
-    ∙ ap (λ l. Some (record { entries = l; output = run.output; end = run.end })) entries
+endless image shape zero h = refl
+endless image shape (suc n) h =
+    let before : ended_run image shape n ≡ None = endless image shape n (λ u lt. h u (omega (arith, lt))) in
+    let here : end_in (state_at image shape n) ≡ None = h n (omega arith) in
+    rw before (rw here refl)
 
--- a run that the budget doesn't end
-pub endless : (image : LoadedImage) (budget : ℕ) → (after image budget (reset image [])).stop ≡ None → ended_run image budget ≡ None
+-- the run that ended stays
+stays : (image : LoadedImage) (shape : Shape) (n more m : ℕ) (run : EndedRun) → m ≡ more + n → ended_run image shape n ≡ Some run → ended_run image shape m ≡ Some run
 unfolding ended_run
-endless image budget h = ap (run_to image budget) h
+stays image shape n zero m run e h = let same : m ≡ n = omega (arith, e) in rw same h
+stays image shape n (suc more) zero run e h = absurd (omega (arith, e))
+stays image shape n (suc more) (suc m) run e h = rw (stays image shape n more m run (omega (arith, e)) h) refl
+
+-- what the first end shows
+first : (image : LoadedImage) (shape : Shape) (last : ℕ) (r : RecordedRun) → IsRunning image shape last → end_in (state_at image shape last) ≡ Some r.end
+    → r.output ≡ output_below image shape (suc last) → r.instructions ≡ retired_below image shape (suc last) → r.clocks ≡ clocks_below image shape (suc last) → ended_run image shape (suc last) ≡ Some (shown r)
+unfolding ended_run
+first image shape last r running ends output instructions clocks =
+    rw (endless image shape last running)
+    (rw ends (rw output (rw instructions (rw clocks refl))))
+
+of_image : (image : LoadedImage) (shape : Shape) (budget : ℕ) (r : RecordedRun) → r.image ≡ image → r.shape ≡ shape → ended_run r.image r.shape budget ≡ Some (shown r) → ended_run image shape budget ≡ Some (shown r)
+of_image image shape budget r i s h = subst (λ x. ended_run image x budget ≡ Some (shown r)) s (subst (λ x. ended_run x r.shape budget ≡ Some (shown r)) i h)
+
+-- a record within the budget is the run
+pub ran : (image : LoadedImage) (shape : Shape) (budget : ℕ) (r : RecordedRun) → IsRunOf image shape budget r → ended_run image shape budget ≡ Some (shown r)
+ran image shape budget r h =
+    let last : ℕ = h.is_record.last in
+    let cycles : r.cycles ≡ suc last = omega (arith, h.is_record.cycles) in
+    let output : r.output ≡ output_below r.image r.shape (suc last) = h.is_record.output ∙ ap (output_below r.image r.shape) cycles in
+    let instructions : r.instructions ≡ retired_below r.image r.shape (suc last) = h.is_record.instructions ∙ ap (retired_below r.image r.shape) cycles in
+    let clocks : r.clocks ≡ clocks_below r.image r.shape (suc last) = h.is_record.clocks ∙ ap (clocks_below r.image r.shape) cycles in
+    let one : ended_run r.image r.shape (suc last) ≡ Some (shown r) = first r.image r.shape last r h.is_record.running h.is_record.ends output instructions clocks in
+    let within : budget ≡ (budget - suc last) + suc last = omega (arith, cycles, h.within) in
+    of_image image shape budget r h.image_is h.shape_is
+    (stays r.image r.shape (suc last) (budget - suc last) budget (shown r) within one)

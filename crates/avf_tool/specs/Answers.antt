@@ -1,55 +1,73 @@
 -- What each command answers for the contents of its file.
-use Rattle.std.specs.Prelude.{◌≡◌, ◌<◌, ◌≤◌, Vec, ℕ, List, length, Option, Some, None, IfSome, Result, Ok, Err, nat_lt, if◌then◌else◌, ⊤}
+use Rattle.std.specs.Prelude.{◌≡◌, ◌*◌, ◌^◌, ◌<◌, ◌≤◌, Vec, ℕ, List, length, Option, Some, None, IfSome, Result, Ok, Err, nat_lt, if◌then◌else◌, ⊤}
 use Rattle.std.specs.declared.alloc.Global.{Global}
 use Rattle.avf_base.specs.Causes.{Rose}
 use Rattle.avf_base.specs.Refusals.{Cause, ByWords, ByShelf, ByContents, ByOut, Free, cause_of}
 use Rattle.avf_base.specs.declared.refusal.Refusal.{Refusal}
 use Rattle.avf_base.specs.declared.refusal.Refusal.TheVariants.{BadImage, NoEnd, OutOfMemory}
+use Rattle.bit_field.specs.declared.shapes.Shape.{Shape}
 use Rattle.elf_load.specs.Image.{LoadedImage}
 use Rattle.elf_load.specs.Meaning.{image_of}
 use Rattle.elf_load.specs.Refusal.{first_refusal}
-use Rattle.rv_isa.specs.Runs.{EndedRun}
-use Rattle.avf_tool.specs.Runs.{ended_run}
-use Rattle.avf_tool.specs.Texts.{trace_text}
-use Rattle.avf_tool.specs.Words.{Job, Run}
+use Rattle.run_log.specs.Run.{RecordedRun}
+use Rattle.rv_isa.specs.Runs.{EndedRun as Trace}
+use Rattle.avf_tool.specs.Traces.{ended_trace}
+use Rattle.avf_tool.specs.Runs.{EndedRun, ended_run}
+use Rattle.avf_tool.specs.Texts.{deadness_text, ended_text, shown}
+use Rattle.avf_tool.specs.Words.{Job, Run, Dead}
 
 -- a text, or a refusal
 pub data Answer : Type 0 where
   Text : List ℕ → Answer
   Refused : Refusal → Answer
 
--- the greatest length of an image, and the size of RAM, in bytes
+-- the greatest length of an image, and the size of a machine's RAM, in bytes
 abbrev pub image_limit : ℕ
 image_limit = 16777216
 
-abbrev pub ram_size : ℕ
-ram_size = 1048576
+abbrev pub ram_size : Shape → ℕ
+ram_size shape = shape.mib * 2 ^ 20
 
 abbrev pub unless_refused : Option ℕ → Answer → Answer
 unless_refused (Some k) next = Refused (BadImage k)
 unless_refused None next = next
 
 -- what every command on an image begins with: the image that the contents mean, or the first reason to refuse them
-abbrev pub on_image : List ℕ → (LoadedImage → Answer) → Answer
-on_image contents next =
+abbrev pub on_image : Shape → List ℕ → (LoadedImage → Answer) → Answer
+on_image shape contents next =
     if nat_lt image_limit (length contents) then Refused (BadImage 13)
-    else unless_refused (first_refusal contents ram_size) (next (image_of contents ram_size))
+    else unless_refused (first_refusal contents (ram_size shape)) (next (image_of contents (ram_size shape)))
 
 abbrev pub unless_endless : Option EndedRun → (EndedRun → Answer) → Answer
 unless_endless (Some run) next = next run
 unless_endless None next = Refused NoEnd
 
--- what every command on a run goes on with: the run of the image from reset, in at most so many instructions
-abbrev pub on_run : LoadedImage → ℕ → (EndedRun → Answer) → Answer
-on_run image budget next = unless_endless (ended_run image budget) next
+-- what every command on a run goes on with: the machine's run on the image from reset, in at most so many cycles
+abbrev pub on_run : Shape → LoadedImage → ℕ → (EndedRun → Answer) → Answer
+on_run shape image budget next = unless_endless (ended_run image shape budget) next
 
 -- `run` on an image
-abbrev pub run_on : LoadedImage → ℕ → Answer
-run_on image budget = on_run image budget (λ run. Text (trace_text run))
+abbrev pub run_on : Shape → ℕ → LoadedImage → Answer
+run_on shape budget image = on_run shape image budget (λ run. Text (ended_text run))
+
+abbrev pub unless_traceless : Option Trace → (Trace → Answer) → Answer
+unless_traceless (Some trace) next = next trace
+unless_traceless None next = Refused NoEnd
+
+-- the instruction set's trace of an image, of as many instructions as the machine retired, with the clock values that the
+-- machine's run gave
+abbrev pub on_trace : LoadedImage → EndedRun → (Trace → Answer) → Answer
+on_trace image run next = unless_traceless (ended_trace image run.clocks run.instructions) next
+
+-- `dead` on an image: the classes of the trace's instructions
+abbrev pub dead_on : Shape → ℕ → LoadedImage → Answer
+dead_on shape budget image =
+    on_run shape image budget (λ run. on_trace image run (λ trace. Text (deadness_text trace.entries)))
 
 -- what a command answers where its file holds these contents
 abbrev pub answer : Job → List ℕ → Answer
-answer (Run r) contents = on_image contents (λ image. run_on image r.budget)
+answer (Run r) contents = on_image r.shape contents (run_on r.shape r.budget)
+answer (Dead r) contents = on_image r.shape contents (dead_on r.shape r.budget)
 
 -- A refusal that was worked out of the contents, or want of memory.
 abbrev pub WorkedOut : Cause → Answer → Refusal → Type 0
@@ -65,18 +83,31 @@ IsText due (Ok text) = due ≡ Text text.items
 IsText due (Err refusal) = WorkedOut (cause_of refusal) due refusal
 
 -- the image that these contents mean, or the first reason to refuse them
-abbrev pub IsLoaded : List ℕ → Result LoadedImage Refusal → Type 0
-IsLoaded contents (Ok image) = (first_refusal contents ram_size ≡ None) × (image ≡ image_of contents ram_size)
-IsLoaded contents (Err (BadImage k)) = first_refusal contents ram_size ≡ Some k
-IsLoaded contents (Err OutOfMemory) = ⊤
-IsLoaded contents (Err refusal) = ⊥
+abbrev pub IsLoaded : Shape → List ℕ → Result LoadedImage Refusal → Type 0
+IsLoaded shape contents (Ok image) = (first_refusal contents (ram_size shape) ≡ None) × (image ≡ image_of contents (ram_size shape))
+IsLoaded shape contents (Err (BadImage k)) = first_refusal contents (ram_size shape) ≡ Some k
+IsLoaded shape contents (Err OutOfMemory) = ⊤
+IsLoaded shape contents (Err refusal) = ⊥
 
--- the run of an image in at most so many instructions, or that they didn't end it
-abbrev pub IsTraced : LoadedImage → ℕ → Result EndedRun Refusal → Type 0
-IsTraced image budget (Ok run) = ended_run image budget ≡ Some run
-IsTraced image budget (Err NoEnd) = ended_run image budget ≡ None
-IsTraced image budget (Err OutOfMemory) = ⊤
-IsTraced image budget (Err refusal) = ⊥
+-- the machine's run on an image in at most so many cycles, or that they didn't end it
+abbrev pub Ran : Shape → LoadedImage → ℕ → Result RecordedRun Refusal → Type 0
+Ran shape image budget (Ok run) = ended_run image shape budget ≡ Some (shown run)
+Ran shape image budget (Err NoEnd) = ended_run image shape budget ≡ None
+Ran shape image budget (Err OutOfMemory) = ⊤
+Ran shape image budget (Err refusal) = ⊥
+
+-- the trace of an image with these clock values in at most so many instructions, or that they didn't end it
+abbrev pub Traced : LoadedImage → List ℕ → ℕ → Result Trace Refusal → Type 0
+Traced image clocks limit (Ok trace) = ended_trace image clocks limit ≡ Some trace
+Traced image clocks limit (Err NoEnd) = ended_trace image clocks limit ≡ None
+Traced image clocks limit (Err OutOfMemory) = ⊤
+Traced image clocks limit (Err refusal) = ⊥
+
+-- the text of the classes of a trace, or want of memory
+abbrev pub IsDeadText : Trace → Result (Vec ℕ Global) Refusal → Type 0
+IsDeadText trace (Ok text) = text.items ≡ deadness_text trace.entries
+IsDeadText trace (Err OutOfMemory) = ⊤
+IsDeadText trace (Err refusal) = ⊥
 
 -- why a file wasn't read, where a longer one is refused so
 abbrev pub WasRead : Cause → Refusal → ℕ → Option (List ℕ) → ℕ → ℕ → Refusal → Type 0

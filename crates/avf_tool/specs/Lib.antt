@@ -4,4 +4,5 @@ pub mod Jobs
 pub mod Numbers
 pub mod Runs
 pub mod Texts
+pub mod Traces
 pub mod Words

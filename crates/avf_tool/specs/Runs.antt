@@ -1,25 +1,26 @@
--- The trace of an image, as far as so many instructions lead.
-use Rattle.std.specs.Prelude.{ℕ, zero, suc, List, [], ◌∷◌, Option, Some, None, is_none, if◌then◌else◌}
+-- The machine's run on an image, as far as so many cycles lead.
+use Rattle.std.specs.Prelude.{ℕ, zero, suc, List, Option, None, option_map}
+use Rattle.std.specs.Option.{option_or}
 use Rattle.avf_base.specs.declared.end.End.{End}
+use Rattle.bit_field.specs.declared.shapes.Shape.{Shape}
+use Rattle.cyc_machine.specs.Cycle.{end_in}
 use Rattle.elf_load.specs.Image.{LoadedImage}
-use Rattle.rv_isa.specs.Effects.{retired_at}
-use Rattle.rv_isa.specs.Instruction.{State, instruction}
-use Rattle.rv_isa.specs.Runs.{EndedRun, after, reset}
-use Rattle.rv_isa.specs.declared.effect.Retired.{Retired}
+use Rattle.run_log.specs.Run.{clocks_below, output_below, retired_below, state_at}
 
--- what is recorded of at most n instructions from a state on, up to and with the one that ends the run
-unfoldable pub recorded : LoadedImage → ℕ → State → List Retired
-recorded image zero at = []
-recorded image (suc n) at = if is_none at.stop then retired_at image at ∷ recorded image n (instruction image at) else []
+-- what a run shows that has ended
+pub record EndedRun : Type 0 where
+  pub output : List ℕ  -- the bytes that the program put
+  pub end : End
+  pub instructions : ℕ  -- how many were retired, the ending one included
+  pub clocks : List ℕ  -- the cycles in which a read of the cycle counter left EX
 
-abbrev pub run_to : LoadedImage → ℕ → Option End → Option EndedRun
-run_to image budget None = None
-run_to image budget (Some end) = Some (record {
-  entries = recorded image budget (reset image []);
-  output = (after image budget (reset image [])).log.output;
-  end = end;
-})
+-- what the machine shows from reset up to and with cycle t, where its run ends in that cycle
+abbrev pub ended_in : LoadedImage → Shape → ℕ → Option EndedRun
+ended_in image shape t = option_map
+    (λ end. record { output = output_below image shape (suc t); end = end; instructions = retired_below image shape (suc t); clocks = clocks_below image shape (suc t) })
+    (end_in (state_at image shape t))
 
--- the run from reset, where it ends within so many instructions
-unfoldable pub ended_run : LoadedImage → ℕ → Option EndedRun
-ended_run image budget = run_to image budget (after image budget (reset image [])).stop
+-- the run from reset, where an end comes in one of its first n cycles: up to the first end
+unfoldable pub ended_run : LoadedImage → Shape → ℕ → Option EndedRun
+ended_run image shape zero = None
+ended_run image shape (suc n) = option_or (ended_run image shape n) (ended_in image shape n)

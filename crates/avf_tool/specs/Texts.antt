@@ -1,10 +1,16 @@
 -- The texts of the short commands.
-use Rattle.std.specs.Prelude.{ℕ, List, [], ◌∷◌, length, codes, decimal}
+use Rattle.std.specs.Prelude.{ℕ, List, [], ◌∷◌, codes, count_by, decimal, length}
 use Rattle.hex.specs.Hex.{encode_lower}
 use Rattle.avf_base.specs.Refusals.{joined}
 use Rattle.avf_base.specs.declared.end.End.{End}
 use Rattle.avf_base.specs.declared.end.End.TheVariants.{Exit, Trap}
-use Rattle.rv_isa.specs.Runs.{EndedRun}
+use Rattle.rv_isa.specs.declared.effect.Retired.{Retired}
+use Rattle.avf_tool.specs.declared.texts.DeadCounts.{DeadCounts}
+use Rattle.dead_class.specs.Classes.{classes_of, is_class}
+use Rattle.dead_class.specs.declared.class.DeadClass.{DeadClass}
+use Rattle.dead_class.specs.declared.class.DeadClass.TheVariants.{Needed, Nop, FddReg, TddReg, FddMem, TddMem}
+use Rattle.run_log.specs.Run.{RecordedRun}
+use Rattle.avf_tool.specs.Runs.{EndedRun}
 
 -- the bytes that a program put, as pairs of lower-case hexadecimal digits
 abbrev pub output_text : List ℕ → List ℕ
@@ -19,13 +25,56 @@ abbrev pub end_number : End → ℕ
 end_number (Exit n) = n
 end_number (Trap n) = n
 
--- `run`: what the program put, how it ended, and how many instructions it took, the ending one included
+-- `run`: what the program put, how it ended, and how many instructions were retired, the ending one included
 abbrev pub run_text : List ℕ → End → ℕ → List ℕ
 run_text output end instructions = joined (
     codes "output " ∷ output_text output
     ∷ codes "\nend " ∷ end_word end ∷ codes " " ∷ decimal (end_number end)
     ∷ codes "\ninstructions " ∷ decimal instructions ∷ codes "\n" ∷ [])
 
--- the same of a trace
-abbrev pub trace_text : EndedRun → List ℕ
-trace_text run = run_text run.output run.end (length run.entries)
+-- the same of a run that has ended
+abbrev pub ended_text : EndedRun → List ℕ
+ended_text run = run_text run.output run.end run.instructions
+
+-- what `run` shows of a record
+abbrev pub shown : RecordedRun → EndedRun
+shown r = record { output = r.output; end = r.end; instructions = r.instructions; clocks = r.clocks }
+
+abbrev pub count_of : DeadClass → List DeadClass → ℕ
+count_of class classes = count_by (is_class class) classes
+
+-- how many of these instructions are of each class
+abbrev pub dead_counts : ℕ → List DeadClass → DeadCounts
+dead_counts instructions classes = record {
+  instructions = instructions;
+  needed = count_of Needed classes;
+  nop = count_of Nop classes;
+  fdd_reg = count_of FddReg classes;
+  tdd_reg = count_of TddReg classes;
+  fdd_mem = count_of FddMem classes;
+  tdd_mem = count_of TddMem classes;
+}
+
+-- `dead`: how many instructions there were, and how many of each class
+abbrev pub needed_lines : DeadCounts → List ℕ
+needed_lines counts = joined (
+    codes "instructions " ∷ decimal counts.instructions
+    ∷ codes "\nneeded " ∷ decimal counts.needed
+    ∷ codes "\nnop " ∷ decimal counts.nop ∷ codes "\n" ∷ [])
+
+abbrev pub register_lines : DeadCounts → List ℕ
+register_lines counts = joined (
+    codes "fdd-reg " ∷ decimal counts.fdd_reg
+    ∷ codes "\ntdd-reg " ∷ decimal counts.tdd_reg ∷ codes "\n" ∷ [])
+
+abbrev pub memory_lines : DeadCounts → List ℕ
+memory_lines counts = joined (
+    codes "fdd-mem " ∷ decimal counts.fdd_mem
+    ∷ codes "\ntdd-mem " ∷ decimal counts.tdd_mem ∷ codes "\n" ∷ [])
+
+abbrev pub dead_text : DeadCounts → List ℕ
+dead_text counts = joined (needed_lines counts ∷ register_lines counts ∷ memory_lines counts ∷ [])
+
+-- the same of a trace's instructions
+abbrev pub deadness_text : List Retired → List ℕ
+deadness_text entries = dead_text (dead_counts (length entries) (classes_of entries))

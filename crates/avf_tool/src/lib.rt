@@ -4,6 +4,7 @@
 // The words of a command.
 mod command;
 mod numbers;
+mod shape;
 
 // What a command answers.
 mod perform;

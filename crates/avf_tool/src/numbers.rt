@@ -1,9 +1,10 @@
 // Numbers among the words of a command.
-ghost use Rattle.std.specs.Prelude.{◌≡◌, ◌<◌, length};
+ghost use Rattle.std.specs.Prelude.{◌≡◌, ◌<◌, ◌≤◌, IfSome, length};
 ghost use Rattle.avf_tool.specs.Numbers.{is_plain, number, within};
 
 fn within(n: u64, least: u64, most: u64) -> Option<u64>
-    ensures { result ≡ within least most n }
+    ensures is { result ≡ within least most n }
+    ensures fits { IfSome result (λ r. (least ≤ r) × (r ≤ most)) }
 {
     if least <= n && n <= most {
         Some(n)
@@ -22,7 +23,8 @@ fn is_plain(digits: &[u8]) -> bool
 
 /// The number from `least` to `most` that a word spells in decimal digits, with no sign and no zero in front.
 pub fn number(text: &str, least: u64, most: u64) -> Option<u64>
-    ensures { result ≡ number least most text.now }
+    ensures is { result ≡ number least most text.now }
+    ensures fits { IfSome result (λ r. (least ≤ r) × (r ≤ most)) }
 {
     let bytes = text.as_bytes();
     if bytes.is_empty() || bytes[0] == b'+' {

@@ -1,20 +1,23 @@
 // What the commands have in common: a file is read, an image is loaded, and it runs.
-ghost use Rattle.std.specs.Prelude.{◌≡◌, ◌≤◌, List, ℕ, length};
+ghost use Rattle.std.specs.Prelude.{◌≡◌, ◌≤◌, List, ℕ, length, IfOk};
 ghost use Rattle.avf_base.specs.Refusals.{ByContents, cause_of};
 ghost use Rattle.avf_base.specs.declared.refusal.Refusal.TheVariants.{BadImage};
-ghost use Rattle.avf_tool.specs.Answers.{IsLoaded, IsRead, IsTraced, image_limit};
+ghost use Rattle.bit_field.specs.Shapes.{IsShape};
+ghost use Rattle.avf_tool.specs.Answers.{IsLoaded, IsRead, Ran, Traced, image_limit, ram_size};
 
 use avf_base::{ReadError, Refusal, Shelf, Steps, read_file};
+use bit_field::Shape;
 use elf_load::{Image, LoadError, load};
-use rv_isa::{IsaError, Trace};
+use run_log::{RecordError, Recorded, record_shaped};
+use rv_isa::{IsaError, Trace, run_clocked};
 use std::alloc::Global;
 use std::sync::ledger::Ledger;
 
 // The greatest length of an image, in bytes.
 const IMAGE_LIMIT: u32 = 16_777_216;
 
-// The size of RAM, in bytes.
-const RAM_SIZE: u32 = 1_048_576;
+// Bytes of a MiB.
+const MIB: u32 = 1_048_576;
 
 // The bytes of a file of at most `limit` bytes. A longer one is refused as `long`.
 fn read_limited<H: Shelf>(
@@ -46,28 +49,54 @@ pub fn read_image<H: Shelf>(alloc: Global, shelf: &mut H, name: &str) -> Result<
     read_limited(alloc, shelf, name, IMAGE_LIMIT, Refusal::BadImage(13))
 }
 
-/// The image that a file's bytes mean, or the first reason to refuse them.
-pub fn load_image(alloc: Global, contents: &[u8]) -> Result<Image, Refusal>
-    ensures { IsLoaded contents.now result }
+/// The image that a file's bytes mean on a machine of this shape, or the first reason to refuse them.
+#[tactic(auto, using(crate::proofs::Rams::lemmas))]
+pub fn load_image(alloc: Global, contents: &[u8], shape: &Shape) -> Result<Image, Refusal>
+    requires { IsShape shape.now }
+    ensures loaded { IsLoaded shape.now contents.now result }
+    ensures ram { IfOk result (λ i. length i.ram ≡ ram_size shape.now) }
 {
-    match load(alloc, contents, RAM_SIZE) {
+    match load(alloc, contents, u32::from(shape.mib) * MIB) {
         Ok(image) => Ok(image),
         Err(LoadError::Bad(reason)) => Err(Refusal::BadImage(reason)),
         Err(LoadError::OutOfMemory) => Err(Refusal::OutOfMemory),
     }
 }
 
-/// The trace of an image in at most `budget` instructions.
-#[tactic(auto, using(crate::proofs::Runs::traced, crate::proofs::Runs::endless))]
+/// The machine's run on an image in at most `budget` cycles.
+#[tactic(auto, using(crate::proofs::Runs::ran, crate::proofs::Runs::endless))]
+pub fn run_image<'i, L: Ledger>(
+    alloc: Global,
+    image: &'i Image,
+    shape: &Shape,
+    budget: u32,
+    steps: &mut Steps<L>,
+) -> Result<Recorded<'i>, Refusal>
+    requires shape { IsShape shape.now }
+    requires ram { length image.now.ram ≡ ram_size shape.now }
+    requires least { 1 ≤ budget }
+    requires most { budget ≤ 1000000 }
+    ensures { Ran shape.now image.now budget result }
+{
+    match record_shaped(alloc, image, shape, budget, steps) {
+        Ok(run) => Ok(run),
+        Err(RecordError::NoEnd) => Err(Refusal::NoEnd),
+        Err(RecordError::OutOfMemory) => Err(Refusal::OutOfMemory),
+    }
+}
+
+/// The trace of an image with these clock values, of at most `limit` instructions.
+#[tactic(auto, using(crate::proofs::Traces::traced, crate::proofs::Traces::endless))]
 pub fn trace_image<M: Ledger>(
     alloc: Global,
     image: &Image,
-    budget: u32,
+    clocks: &[u32],
+    limit: u32,
     applies: &mut Steps<M>,
 ) -> Result<Trace, Refusal>
-    ensures { IsTraced image.now budget result }
+    ensures { Traced image.now clocks.now limit result }
 {
-    match rv_isa::run(alloc, image, budget, applies) {
+    match run_clocked(alloc, image, limit, clocks, applies) {
         Ok(trace) => Ok(trace),
         Err(IsaError::NoEnd) => Err(Refusal::NoEnd),
         Err(IsaError::OutOfMemory) => Err(Refusal::OutOfMemory),

@@ -11,11 +11,12 @@ use std::alloc::{AllocError, Global};
 use std::sync::ledger::Ledger;
 
 // Performs the words, and gives the text to `out`.
-fn serve<H: Shelf, O: Sink, M: Ledger>(
+fn serve<H: Shelf, O: Sink, L: Ledger, M: Ledger>(
     alloc: Global,
     words: &[String],
     shelf: &mut H,
     out: &mut O,
+    steps: &mut Steps<L>,
     applies: &mut Steps<M>,
 ) -> Result<(), Refusal>
     ensures serves { Serves (command_of (texts words.now)) (H.holds shelf.old) (faults_of H.faults shelf.old shelf.new) (use_of O.taken O.faults out.old out.new) result }
@@ -24,7 +25,7 @@ fn serve<H: Shelf, O: Sink, M: Ledger>(
     let Some(command) = read_words(words) else {
         return Err(Refusal::Usage);
     };
-    let text = perform(alloc, &command, shelf, applies)?;
+    let text = perform(alloc, &command, shelf, steps, applies)?;
     match write_all(out, &text) {
         Ok(()) => Ok(()),
         Err(Failed) => Err(Refusal::WriteFault),
@@ -83,19 +84,20 @@ fn refuse<E: Sink>(alloc: Global, refusal: Refusal, err: &mut E) -> Refusal
 }
 
 // The same as `run_tool`, by how it ends.
-fn end<H: Shelf, O: Sink, E: Sink, M: Ledger>(
+fn end<H: Shelf, O: Sink, E: Sink, L: Ledger, M: Ledger>(
     alloc: Global,
     words: &[String],
     shelf: &mut H,
     out: &mut O,
     err: &mut E,
+    steps: &mut Steps<L>,
     applies: &mut Steps<M>,
 ) -> u8
     ensures ends { Ends (command_of (texts words.now)) (H.holds shelf.old) (faults_of H.faults shelf.old shelf.new)
         (use_of O.taken O.faults out.old out.new) (use_of E.taken E.faults err.old err.new) result }
     ensures keeps { (n : List ℕ) → H.holds shelf.new n ≡ H.holds shelf.old n }
 {
-    match serve(alloc, words, shelf, out, applies) {
+    match serve(alloc, words, shelf, out, steps, applies) {
         Ok(()) => 0,
         Err(refusal) => refuse(alloc, refusal, err).status(),
     }
@@ -121,5 +123,5 @@ pub fn run_tool<H: Shelf, O: Sink, E: Sink, L: Ledger, M: Ledger>(
         (use_of O.taken O.faults out.old out.new) (use_of E.taken E.faults err.old err.new) result }
     ensures keeps { (n : List ℕ) → H.holds shelf.new n ≡ H.holds shelf.old n }
 {
-    end(alloc, words, shelf, out, err, applies)
+    end(alloc, words, shelf, out, err, steps, applies)
 }
