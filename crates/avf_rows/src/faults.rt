@@ -124,7 +124,7 @@ fn all<R: Abort + AllocGlobal + Files, L: Ledger, M: Ledger>(rt: &R, one: Blank,
             "",
         ),
         (
-            "run a.elf 2",
+            "run a.elf 5",
             Faults {
                 reads: &[],
                 out: &[],

@@ -65,46 +65,157 @@ fn row<R: Abort + AllocGlobal, L: Ledger, M: Ledger>(
     assert!(rt; silent.is_empty(), "{line}: {text}");
 }
 
-// Rows on flat images of words.
-fn runs<R: Abort + AllocGlobal, L: Ledger, M: Ledger>(
+// Rows on flat images of words: the spelling of the command.
+fn spellings<R: Abort + AllocGlobal, L: Ledger, M: Ledger>(
     rt: &R,
     steps: &mut Steps<L>,
     applies: &mut Steps<M>,
 ) {
+    let file = flat(rt.alloc(), &THREE).expect(rt, "ample memory");
+    let lines: [&str; 16] = [
+        "run a.elf 0",
+        "run a.elf 1000001",
+        "run a.elf 006",
+        "run a.elf",
+        "fly a.elf 6",
+        "run  6",
+        "with 0 32 2 run a.elf 6",
+        "with 17 32 2 run a.elf 6",
+        "with 1 48 2 run a.elf 6",
+        "with 1 32 3 run a.elf 6",
+        "with 01 32 2 run a.elf 6",
+        "with 1 32 2",
+        "with 1 32 run a.elf 6",
+        "with 1 32 2 fly a.elf 6",
+        "with 1 32 2 with 1 32 2 run a.elf 6",
+        "with",
+    ];
+    for line in &lines {
+        row(rt, steps, applies, line, &file, 2, "avf: usage\n");
+    }
     let three = "output -\nend exit 7\ninstructions 3\n";
-    let rows: [(&str, &[u32], u8, &str); 13] = [
-        ("run a.elf 6", &THREE, 0, three),
-        ("run a.elf 3", &THREE, 0, three),
-        ("run a.elf 2", &THREE, 5, "avf: no end\n"),
-        ("run a.elf 0", &THREE, 2, "avf: usage\n"),
-        ("run a.elf 1000001", &THREE, 2, "avf: usage\n"),
-        ("run a.elf 006", &THREE, 2, "avf: usage\n"),
-        ("run a.elf", &THREE, 2, "avf: usage\n"),
-        ("fly a.elf 6", &THREE, 2, "avf: usage\n"),
-        ("run  6", &THREE, 2, "avf: usage\n"),
+    for line in [
+        "run a.elf 6",
+        "with 16 128 4 run a.elf 6",
+        "with 1 16 1 run a.elf 6",
+    ] {
+        row(rt, steps, applies, line, &file, 0, three);
+    }
+}
+
+// Asserts that the flat image of these words ends within so many cycles, with this text, and within none less.
+fn takes<R: Abort + AllocGlobal, L: Ledger, M: Ledger>(
+    rt: &R,
+    steps: &mut Steps<L>,
+    applies: &mut Steps<M>,
+    shape: &str,
+    words: &[u32],
+    cycles: u32,
+    text: &str,
+) {
+    let alloc = rt.alloc();
+    let file = flat(alloc, words).expect(rt, "ample memory");
+    let line = run_line(alloc, shape, cycles).expect(rt, "ample memory");
+    row(rt, steps, applies, line.as_str(), &file, 0, text);
+    let line = run_line(alloc, shape, cycles.saturating_sub(1)).expect(rt, "ample memory");
+    row(rt, steps, applies, line.as_str(), &file, 5, "avf: no end\n");
+}
+
+fn run_line(alloc: Global, shape: &str, cycles: u32) -> Result<String, AllocError> {
+    format!(in alloc; "{shape}run a.elf {cycles}")
+}
+
+// Each word but the first two loads or stores, or is a NOP; a7 = 93 and ECALL end it.
+const CONFLICT: [u32; 7] = [
+    0x00080437, 0x00042283, 0x20042303, 0x40042383, 0x00042503, 0x05D00893, 0x00000073,
+];
+
+const BESIDE: [u32; 9] = [
+    0x00080437, 0x00042283, 0x00540423, 0x00000013, 0x20042303, 0x40042383, 0x00042503, 0x05D00893,
+    0x00000073,
+];
+
+const TAGS: [u32; 7] = [
+    0x00080437, 0x00042283, 0x40042303, 0x60042383, 0x20042503, 0x05D00893, 0x00000073,
+];
+
+const PENDING: [u32; 5] = [0x00080437, 0x00042283, 0x20040023, 0x05D00893, 0x00000073];
+
+// Rows of flat images by their exact number of cycles.
+fn cycles<R: Abort + AllocGlobal, L: Ledger, M: Ledger>(
+    rt: &R,
+    steps: &mut Steps<L>,
+    applies: &mut Steps<M>,
+) {
+    let rows: [(&str, &[u32], u32, &str); 15] = [
+        ("", &THREE, 6, "output -\nend exit 7\ninstructions 3\n"),
         (
-            "run a.elf 1",
+            "",
+            &[0x00000067],
+            8,
+            "output -\nend trap 1\ninstructions 2\n",
+        ),
+        (
+            "",
+            &[0x0020006F],
+            4,
+            "output -\nend trap 2\ninstructions 1\n",
+        ),
+        (
+            "",
             &[0x00042283],
-            0,
+            4,
             "output -\nend trap 5\ninstructions 1\n",
         ),
         (
-            "run a.elf 2",
+            "",
             &[0x00700513],
-            0,
+            5,
             "output -\nend trap 1\ninstructions 2\n",
         ),
-        ("run a.elf 1", &[0x00700513], 5, "avf: no end\n"),
         (
-            "run a.elf 4",
-            &[0x0020006F],
-            0,
-            "output -\nend trap 2\ninstructions 1\n",
+            "",
+            &[0x00C0006F, 0x00900513, 0x00900513, 0x05D00893, 0x00000073],
+            9,
+            "output -\nend exit 0\ninstructions 3\n",
+        ),
+        (
+            "",
+            &[0x00500293, 0x00500293, 0x00028513, 0x05D00893, 0x00000073],
+            8,
+            "output -\nend exit 5\ninstructions 5\n",
+        ),
+        ("", &CONFLICT, 46, "output -\nend exit 0\ninstructions 7\n"),
+        (
+            "with 1 32 4 ",
+            &CONFLICT,
+            37,
+            "output -\nend exit 0\ninstructions 7\n",
+        ),
+        ("", &BESIDE, 57, "output -\nend exit 0\ninstructions 9\n"),
+        ("", &TAGS, 46, "output -\nend exit 0\ninstructions 7\n"),
+        ("", &PENDING, 17, "output -\nend exit 0\ninstructions 5\n"),
+        (
+            "",
+            &[0xC0002573, 0x05D00893, 0x00000073],
+            6,
+            "output -\nend exit 2\ninstructions 3\n",
+        ),
+        (
+            "",
+            &[0x05D00893, 0xC0202573, 0x00000073],
+            6,
+            "output -\nend exit 1\ninstructions 3\n",
+        ),
+        (
+            "",
+            &[0x05D00893, 0xC0002573, 0x00000073],
+            6,
+            "output -\nend exit 3\ninstructions 3\n",
         ),
     ];
-    for (line, words, status, text) in rows {
-        let file = flat(rt.alloc(), words).expect(rt, "ample memory");
-        row(rt, steps, applies, line, &file, status, text);
+    for (shape, words, cycles, text) in rows {
+        takes(rt, steps, applies, shape, words, cycles, text);
     }
 }
 
@@ -192,7 +303,8 @@ fn all<R: Abort + AllocGlobal + Files, L: Ledger, M: Ledger>(rt: &R, one: Blank,
 {
     let mut steps = counter::<R, L>(rt, one);
     let mut applies = counter::<R, M>(rt, other);
-    runs(rt, &mut steps, &mut applies);
+    spellings(rt, &mut steps, &mut applies);
+    cycles(rt, &mut steps, &mut applies);
     changes(rt, &mut steps, &mut applies);
     lengths(rt, &mut steps, &mut applies);
 }
