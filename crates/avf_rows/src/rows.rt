@@ -270,6 +270,36 @@ fn changes<R: Abort + AllocGlobal, L: Ledger, M: Ledger>(
     }
 }
 
+// Rows of `dead`: the words, the cycles, and the counts.
+fn dead<R: Abort + AllocGlobal, L: Ledger, M: Ledger>(
+    rt: &R,
+    steps: &mut Steps<L>,
+    applies: &mut Steps<M>,
+) {
+    let rows: [(&[u32], &str); 3] = [
+        (
+            &[0x00500293, 0x00500293, 0x00028513, 0x05D00893, 0x00000073],
+            "instructions 5\nneeded 4\nnop 0\nfdd-reg 1\ntdd-reg 0\nfdd-mem 0\ntdd-mem 0\n",
+        ),
+        (
+            &[
+                0x00100293, 0x00028313, 0x00030393, 0x00038E13, 0x00000E13, 0x05D00893, 0x00000073,
+            ],
+            "instructions 7\nneeded 2\nnop 0\nfdd-reg 2\ntdd-reg 3\nfdd-mem 0\ntdd-mem 0\n",
+        ),
+        (
+            &[
+                0x00080437, 0x00540023, 0x00044303, 0x00540023, 0x05D00893, 0x00000073,
+            ],
+            "instructions 6\nneeded 2\nnop 0\nfdd-reg 1\ntdd-reg 1\nfdd-mem 1\ntdd-mem 1\n",
+        ),
+    ];
+    for (words, text) in rows {
+        let file = flat(rt.alloc(), words).expect(rt, "ample memory");
+        row(rt, steps, applies, "dead a.elf 100", &file, 0, text);
+    }
+}
+
 // Rows on the first bytes of that image, on zero bytes, and on images of two program headers.
 fn lengths<R: Abort + AllocGlobal, L: Ledger, M: Ledger>(
     rt: &R,
@@ -305,6 +335,7 @@ fn all<R: Abort + AllocGlobal + Files, L: Ledger, M: Ledger>(rt: &R, one: Blank,
     let mut applies = counter::<R, M>(rt, other);
     spellings(rt, &mut steps, &mut applies);
     cycles(rt, &mut steps, &mut applies);
+    dead(rt, &mut steps, &mut applies);
     changes(rt, &mut steps, &mut applies);
     lengths(rt, &mut steps, &mut applies);
 }
