@@ -1,15 +1,13 @@
 -- A register value that nothing reads has no needed bit.
-use Rattle.std.proofs.Common.{◌≡◌, ◌≢◌, ◌⊎◌, ℕ, zero, suc, ◌+◌, ◌<◌, ◌≤◌, Bool, true, false, cond, ltb, eqb, List, [], ◌∷◌, ◌++◌, length, drop, get_or, refl, sym, ◌∙◌, ap, subst, arith, inl, inr}
+use Rattle.std.proofs.Common.{◌≡◌, ◌≢◌, ◌⊎◌, ℕ, zero, suc, ◌+◌, ◌<◌, Bool, true, false, cond, List, [], ◌∷◌, ◌++◌, length, drop, refl, sym, ◌∙◌, ap, subst, arith, inl, inr}
 use Rattle.std.specs.Int.{bit_at}
-use Rattle.std.specs.Prelude.{Option, Some, None, slice_get, ◌&&◌, ◌||◌}
+use Rattle.std.specs.Prelude.{Option, Some, None, slice_get}
 use Rattle.std.proofs.lemmas.Bool.{cases_eq, false≢true}
 use Rattle.std.proofs.lemmas.Bool.Decides.{nat_tests}
-use Rattle.std.proofs.lemmas.List.{drop_more}
 use Rattle.std.proofs.lemmas.Nat.Bits.{bit_at-lt}
-use Rattle.std.proofs.lemmas.Option.{slice_get_within, get_or_from_slice_get}
 use Rattle.need_pass.specs.Links.{Link, writes, is_register}
 use Rattle.need_pass.specs.Needed.{Root, Needed as IsNeeded}
-use Rattle.need_pass.specs.Places.{Place, Register, Byte, IsPlace}
+use Rattle.need_pass.specs.Places.{Place, Register, Byte}
 use Rattle.need_pass.specs.Tables.{Needs, IsNeedOf, reg_need}
 use Rattle.rv_isa.specs.declared.effect.Retired.{Retired}
 use Rattle.dead_class.specs.Classes.{reads, some_needed, is_nop, may_die, register_readers, bytes_readers, by_readers, stored_class, value_class, class_of, classes_of}

@@ -5,7 +5,7 @@ use Rattle.need_pass.specs.Links.{writes, loads, stores}
 use Rattle.rv_isa.specs.declared.effect.Retired.{Retired}
 use Rattle.rv_table.specs.Operations.{operation_of}
 use Rattle.rv_table.specs.declared.operation.Operation.{Operation}
-use Rattle.rv_table.specs.declared.operation.Operation.TheVariants.{Illegal, FetchFault, Lui, Auipc, Jal, Jalr, Branch, Load, Store, AluImmediate, Alu, Fence, Ecall, Ebreak, ReadCounter}
+use Rattle.rv_table.specs.declared.operation.Operation.TheVariants.{Jal, Jalr, Branch, Load, Store, Ecall, Ebreak}
 use Rattle.dead_class.specs.declared.class.DeadClass.{DeadClass}
 use Rattle.dead_class.specs.declared.class.DeadClass.TheVariants.{Needed, Nop, FddReg, TddReg, FddMem, TddMem}
 

@@ -1,6 +1,6 @@
 -- The fields of a fetched operation are in range.
-use Rattle.std.proofs.Common.{◌≡◌, ℕ, zero, suc, ◌+◌, ◌-◌, ◌*◌, ◌/◌, ◌%◌, ◌^◌, ◌<◌, ◌≤◌, Bool, true, false, cond, ltb, List, [], ◌∷◌, drop, refl, sym, ◌∙◌, ap, subst, arith, lit<}
-use Rattle.std.specs.Prelude.{slice_index, Option, Some, None}
+use Rattle.std.proofs.Common.{ℕ, ◌+◌, ◌-◌, ◌*◌, ◌/◌, ◌%◌, ◌^◌, ◌<◌, ◌≤◌, true, false, cond, ltb, List, [], ◌∷◌, drop, arith, lit<}
+use Rattle.std.specs.Prelude.{slice_index, Some, None}
 use Rattle.byteorder.specs.Endian.{little_number}
 use Rattle.elf_load.specs.Image.{LoadedImage, IsImage, fetch, word_executable}
 use Rattle.rv_isa.proofs.Lists.{word_of_list}
@@ -8,7 +8,7 @@ use Rattle.rv_isa.specs.Instruction.{op_at, op_of_word}
 use Rattle.rv_table.specs.Accesses.{word_of_bytes}
 use Rattle.rv_table.proofs.WordTable.{decode-rs1, decode-rs2}
 use Rattle.rv_table.specs.declared.form.Form.{Form}
-use Rattle.rv_table.specs.declared.form.Form.TheVariants.{U, J, I, B, S, Shift, R, Call, Counter, NoFields}
+use Rattle.rv_table.specs.declared.form.Form.TheVariants.{U, J, I, B, S, Shift}
 use Rattle.rv_table.specs.Words.{Row, rows, matches, op_of_form, first_match, decode, sign_extended}
 use Rattle.rv_table.specs.declared.op.Op.{Op}
 

@@ -1,7 +1,7 @@
 -- The links of an immediate form are those of the register form, but for AND and OR.
-use Rattle.std.proofs.Common.{◌≡◌, ◌≢◌, ℕ, refl}
+use Rattle.std.proofs.Common.{◌≢◌, ℕ, refl}
 use Rattle.rv_table.specs.declared.operation.AluKind.{AluKind}
-use Rattle.rv_table.specs.declared.operation.AluKind.TheVariants.{Add, Sub, Sll, Slt, Sltu, Xor, Srl, Sra, Or, And, Mul, Mulh, Mulhsu, Mulhu, Div, Divu, Rem, Remu}
+use Rattle.rv_table.specs.declared.operation.AluKind.TheVariants.{Or, And}
 use Rattle.need_pass.specs.Links.{FromA, FromImmediate}
 use Rattle.need_pass.specs.Masks.{IsMaskOf, HasOne}
 

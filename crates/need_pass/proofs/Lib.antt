@@ -1,3 +1,4 @@
+pub mod Accessed
 pub mod Agreement
 pub mod ByteBits
 pub mod Fields
@@ -5,6 +6,7 @@ pub mod Histories
 pub mod Immediates
 pub mod MaskBits
 pub mod NeedLaw
+pub mod OneStep
 pub mod Passes
 pub mod Ranges
 pub mod Results

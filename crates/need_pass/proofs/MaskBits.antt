@@ -1,5 +1,5 @@
 -- The masks of the operands' bits, from the mask of the result.
-use Rattle.std.proofs.Common.{◌≡◌, ◌≢◌, ◌↔◌, ◌⊎◌, ℕ, zero, suc, ◌+◌, ◌-◌, ◌*◌, ◌/◌, ◌%◌, ◌^◌, ◌<◌, ◌≤◌, refl, sym, ◌∙◌, ap, subst, arith, inl, inr}
+use Rattle.std.proofs.Common.{◌≡◌, ◌≢◌, ◌⊎◌, ℕ, ◌+◌, ◌-◌, ◌*◌, ◌/◌, ◌%◌, ◌^◌, ◌<◌, ◌≤◌, refl, sym, ◌∙◌, arith, inl, inr}
 use Rattle.std.specs.Int.{bit_at, bit_not, w32}
 use Rattle.std.specs.Prelude.{bit_and, bit_or}
 use lib.Count.{count_leading_zeros}
@@ -7,7 +7,7 @@ use Rattle.std.specs.Int.Count.{leading_of_zero}
 use Rattle.std.proofs.Math.Nat.{div-le_self}
 use Rattle.std.proofs.lemmas.Bool.{cases_lt, cases_eq}
 use Rattle.std.proofs.lemmas.Nat.Bits.{bit_at-lt, bit_at-zero, bit_at_and, bit_at_or, bit_at_not, bit_at_ones, bit_at_ones_above, bit_at_above, bit_at-pow_same, bit_at-pow_other, bit_at_mask_inside, bit_at_mask_below}
-use Rattle.bit_field.proofs.Highest.{highest, IsHighest, nonzero_bit, bit_nonzero, bit_at-below_highest}
+use Rattle.bit_field.proofs.Highest.{highest, nonzero_bit, bit_nonzero, bit_at-below_highest}
 use Rattle.bit_field.proofs.Low.{bit_at-mod, bit_at-shr, bit_at-shl_low, bit_at-shl_high}
 use Rattle.need_pass.specs.Masks.{IsMaskOf, HasOne}
 

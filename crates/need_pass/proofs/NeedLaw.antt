@@ -1,16 +1,15 @@
 -- The need law, along a recorded run.
-use Rattle.std.proofs.Common.{◌≡◌, ℕ, zero, suc, ◌+◌, ◌-◌, ◌^◌, ◌<◌, ◌≤◌, List, [], ◌∷◌, length, drop, get_or, refl, sym, ◌∙◌, ap, subst, arith}
+use Rattle.std.proofs.Common.{◌≡◌, ℕ, zero, suc, ◌+◌, ◌^◌, ◌<◌, ◌≤◌, List, ◌∷◌, length, drop, refl, sym, ◌∙◌, ap, subst, arith}
 use Rattle.std.specs.List.{All}
-use Rattle.std.specs.Prelude.{Some, None, slice_get}
 use Rattle.std.proofs.lemmas.List.{drop_more}
-use Rattle.std.proofs.lemmas.Option.{slice_get_within, get_or_from_slice_get}
+use Rattle.std.proofs.lemmas.Option.{get_or_from_slice_get}
 use Rattle.elf_load.specs.Image.{LoadedImage, IsImage}
 use Rattle.rv_isa.proofs.RunSteps.{after-next}
 use Rattle.rv_isa.specs.Effects.{retired_at}
 use Rattle.rv_isa.specs.Instruction.{State, instruction}
-use Rattle.rv_isa.specs.Runs.{EndedRun, IsTrace, after, reset}
+use Rattle.rv_isa.specs.Runs.{EndedRun, IsTrace, reset}
 use Rattle.rv_isa.specs.declared.effect.Retired.{Retired}
-use Rattle.need_pass.specs.Law.{IsWords, Seen, seen, seen_of, recorded, NeedLaw}
+use Rattle.need_pass.specs.Law.{IsWords, seen, seen_of, recorded, NeedLaw}
 use Rattle.need_pass.specs.Needed.{Agrees}
 use Rattle.need_pass.proofs.Agreement.{same_seen, agrees_next}
 use Rattle.need_pass.proofs.Ranges.{words_next, words_reset, words_after}

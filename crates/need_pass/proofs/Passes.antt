@@ -1,5 +1,5 @@
 -- The walk over a run, from its last instruction to its first.
-use Rattle.std.proofs.Common.{◌≡◌, ◌↔◌, ◌⊎◌, ℕ, zero, suc, ◌+◌, ◌-◌, ◌%◌, ◌^◌, ◌<◌, ◌≤◌, List, [], ◌∷◌, length, drop, get_or, refl, sym, ◌∙◌, ap, subst, arith, inl, inr}
+use Rattle.std.proofs.Common.{◌≡◌, ◌↔◌, ◌⊎◌, ℕ, ◌+◌, ◌-◌, ◌%◌, ◌^◌, ◌≤◌, List, [], ◌∷◌, length, drop, get_or, refl, sym, ◌∙◌, ap, arith, inl, inr}
 use Rattle.std.specs.Int.{bit_at}
 use Rattle.std.specs.Prelude.{Some, slice_get, replicate}
 use Rattle.std.proofs.lemmas.Bool.{cases_lt}
@@ -8,12 +8,12 @@ use Rattle.std.proofs.lemmas.Option.{slice_get_within, get_or_from_slice_get}
 use Rattle.std.proofs.lemmas.Nat.Bits.{bit_at-zero}
 use Rattle.bit_field.proofs.Low.{bit_at-mod}
 use Rattle.rv_isa.specs.declared.effect.Retired.{Retired}
-use Rattle.need_pass.specs.Histories.{mask_after, mask_at, changes_of}
+use Rattle.need_pass.specs.Histories.{mask_after, mask_at}
 use Rattle.need_pass.specs.Links.{Link}
 use Rattle.need_pass.specs.Needed.{Root, Needed}
 use Rattle.need_pass.specs.Places.{Place, Register, Byte, IsPlace}
 use Rattle.need_pass.specs.Steps.{StepsBack, IsSettled}
-use Rattle.need_pass.specs.Tables.{register_mask, byte_mask, need_bit, reg_need, byte_need, Needs, IsNeedOf}
+use Rattle.need_pass.specs.Tables.{register_mask, byte_mask, need_bit, reg_need, byte_need, IsNeedOf}
 use Rattle.need_pass.specs.declared.history.Change.{Change}
 
 -- Before instruction `at` and each later one the masks have the needed bits, and before the earlier ones those of `at`.

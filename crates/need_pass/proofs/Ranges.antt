@@ -1,31 +1,28 @@
 -- The numbers of a state stay in their ranges.
-use Rattle.std.proofs.Common.{◌≡◌, ◌⊎◌, ℕ, zero, suc, ◌+◌, ◌-◌, ◌*◌, ◌/◌, ◌%◌, ◌^◌, ◌<◌, ◌≤◌, Bool, true, false, cond, ltb, eqb, List, [], ◌∷◌, length, get_or, refl, sym, ◌∙◌, ap, subst, arith, lit<}
+use Rattle.std.proofs.Common.{ℕ, zero, suc, ◌+◌, ◌-◌, ◌*◌, ◌/◌, ◌%◌, ◌^◌, ◌<◌, Bool, true, false, cond, ltb, eqb, List, [], ◌∷◌, get_or, sym, subst, arith, lit<}
 use Rattle.std.specs.List.{All}
 use Rattle.std.specs.Prelude.{not, ◌&&◌, ◌==◌, is_none}
-use Rattle.std.proofs.lemmas.Bool.{cases_lt, cases_eq}
-use Rattle.std.proofs.lemmas.Bool.Decides.{nat_tests}
 use Rattle.std.proofs.lemmas.Nat.{mod_below}
 use Rattle.elf_load.specs.Image.{LoadedImage, IsImage, in_ram, word_in_ram, executable}
-use Rattle.rv_isa.specs.Effects.{operand_b}
-use Rattle.rv_isa.specs.Instruction.{State, reg, put_reg, given, memory_after, instruction, op_at, action_in, first_clock, later_clocks, next_count}
+use Rattle.rv_isa.specs.Instruction.{State, reg, put_reg, given, memory_after, instruction, op_at, first_clock, later_clocks}
 use Rattle.rv_isa.specs.Runs.{reset, loaded_byte, after}
-use Rattle.rv_table.specs.Accesses.{loaded, stored, accesses, byte_of, load_size, store_size, extended_byte, extended_half, half_at, word_at, word_of_bytes}
-use Rattle.rv_table.specs.Actions.{action, asked, asked_by, judged, value_by, misses_target, called, load_asked, store_asked, counter_by, with_counter, is_clocked, is_aligned, some_executable}
+use Rattle.rv_table.specs.Accesses.{loaded, stored, accesses, byte_of, load_size, store_size, extended_byte, extended_half, half_at}
+use Rattle.rv_table.specs.Actions.{action, asked, asked_by, judged, value_by, misses_target, counter_by, with_counter, is_clocked, is_aligned, some_executable}
 use Rattle.rv_table.specs.Arithmetic.{sum32}
 use Rattle.rv_table.specs.Effects.{written_register}
 use Rattle.rv_table.specs.Operations.{operation_of}
 use Rattle.rv_table.specs.declared.action.Action.{Action}
-use Rattle.rv_table.specs.declared.action.Action.TheVariants.{Nothing, Writes, Loads, Stores, Puts, Exits, Traps}
+use Rattle.rv_table.specs.declared.action.Action.TheVariants.{Writes, Loads, Stores, Puts, Exits, Traps}
 use Rattle.rv_table.specs.declared.op.Op.{Op}
 use Rattle.rv_table.specs.declared.operation.LoadKind.{LoadKind}
 use Rattle.rv_table.specs.declared.operation.LoadKind.TheVariants.{Lb, Lh, Lw, Lbu, Lhu}
 use Rattle.rv_table.specs.declared.operation.StoreKind.{StoreKind}
 use Rattle.rv_table.specs.declared.operation.CounterKind.TheVariants.{Cycle, Instret, Cycleh, Instreth}
 use Rattle.rv_table.specs.declared.operation.Operation.{Operation}
-use Rattle.rv_table.specs.declared.operation.Operation.TheVariants.{Illegal, FetchFault, Lui, Auipc, Jal, Jalr, Branch, Load, Store, AluImmediate, Alu, Fence, Ecall, Ebreak, ReadCounter}
-use Rattle.need_pass.specs.Law.{next_action, IsWords, recorded}
-use Rattle.need_pass.proofs.Agreement.{operand_below, registers_next, memory_next, count_next, clocks_next}
-use Rattle.need_pass.proofs.Fields.{IsFields, fetched_fields}
+use Rattle.rv_table.specs.declared.operation.Operation.TheVariants.{Lui, Auipc, Jal, Jalr, Branch, Load, Store, AluImmediate, Alu, Fence, Ecall, ReadCounter}
+use Rattle.need_pass.specs.Law.{next_action, IsWords}
+use Rattle.need_pass.proofs.OneStep.{operand_below, registers_next, memory_next, count_next, clocks_next}
+use Rattle.need_pass.proofs.Fields.{fetched_fields}
 use Rattle.need_pass.proofs.Results.{alu_below}
 
 -- ---- what is written has 32 bits

@@ -1,15 +1,14 @@
 -- Results of 32-bit operands have 32 bits.
-use Rattle.std.proofs.Common.{◌≡◌, ◌⊎◌, ℕ, zero, suc, ◌+◌, ◌-◌, ◌*◌, ◌/◌, ◌%◌, ◌^◌, ◌<◌, ◌≤◌, ℤ, pos, negsuc, neg_ℤ, ◌*ℤ◌, Bool, true, false, cond, ltb, eqb, refl, sym, ◌∙◌, ap, subst, arith, lit<, lit≤, w32, w64, lt_of_le_of_lt}
+use Rattle.std.proofs.Common.{◌≡◌, ℕ, zero, suc, ◌+◌, ◌-◌, ◌*◌, ◌/◌, ◌%◌, ◌^◌, ◌<◌, ◌≤◌, ℤ, pos, negsuc, neg_ℤ, ◌*ℤ◌, Bool, true, false, cond, ltb, eqb, refl, arith, lit<, w32, w64, lt_of_le_of_lt}
 use Rattle.std.proofs.Math.Nat.{div-le_self, mod-le, mul-le-mul}
 use Rattle.std.proofs.lemmas.Int.{unsigned_abs-mul}
-use Rattle.std.proofs.lemmas.Nat.{div_below, xor_lt, pow_pos}
-use Rattle.std.proofs.lemmas.Bool.{cases_lt}
+use Rattle.std.proofs.lemmas.Nat.{div_below, xor_lt}
 use Rattle.std.proofs.lemmas.Bool.Decides.{nat_tests}
-use Rattle.std.specs.Int.{cast_unsigned, cast_signed}
+use Rattle.std.specs.Int.{cast_unsigned}
 use Rattle.std.specs.Int.RustNames.{int_div, int_rem, unsigned_abs}
 use Rattle.std.specs.Int.Bits.{and_lt, or_lt}
 use mir.Val.{sel}
-use Rattle.rv_table.specs.Arithmetic.{alu, signed, shift_signed, high_word, signed_order}
+use Rattle.rv_table.specs.Arithmetic.{alu, signed, high_word, signed_order}
 use Rattle.rv_table.specs.declared.operation.AluKind.{AluKind}
 use Rattle.rv_table.specs.declared.operation.AluKind.TheVariants.{Add, Sub, Sll, Slt, Sltu, Xor, Srl, Sra, Or, And, Mul, Mulh, Mulhsu, Mulhu, Div, Divu, Rem, Remu}
 use Rattle.need_pass.proofs.SignedShift.{part_below}

@@ -1,7 +1,6 @@
 -- Non-interference of loads and stores at one bit.
-use Rattle.std.proofs.Common.{◌≡◌, ◌⊎◌, ℕ, zero, suc, ◌+◌, ◌-◌, ◌*◌, ◌/◌, ◌%◌, ◌^◌, ◌<◌, ◌≤◌, Bool, true, false, cond, ltb, List, [], ◌∷◌, refl, sym, ◌∙◌, ap, arith, eq-eqb, inl, inr, lit<}
+use Rattle.std.proofs.Common.{◌≡◌, ℕ, ◌+◌, ◌-◌, ◌*◌, ◌/◌, ◌%◌, ◌^◌, ◌<◌, ◌≤◌, true, false, ltb, [], ◌∷◌, refl, sym, ◌∙◌, ap, arith, eq-eqb, inl, inr, lit<}
 use Rattle.std.specs.Int.{bit_at, from_le_bytes, w32}
-use Rattle.std.specs.Prelude.{slice_index}
 use Rattle.std.proofs.lemmas.Bool.{cases_lt}
 use Rattle.std.proofs.lemmas.Bool.Decides.{nat_tests}
 use Rattle.std.proofs.lemmas.Nat.Bits.{bit_at_above, bit_at_ones, bit_at_cat_low, bit_at_cat_high}
@@ -11,7 +10,6 @@ use Rattle.rv_table.specs.declared.operation.LoadKind.{LoadKind}
 use Rattle.rv_table.specs.declared.operation.LoadKind.TheVariants.{Lb, Lh, Lw, Lbu, Lhu}
 use Rattle.need_pass.specs.Links.{FromLoaded}
 use Rattle.need_pass.proofs.ByteBits.{word_bits, each_of_four}
-use Rattle.need_pass.proofs.SignedShift.{high_part}
 
 -- where two memories agree, in the bits of the accessed bytes of which P holds
 abbrev SameBytes : ℕ → ℕ → (ℕ → Type 0) → (ℕ → ℕ) → (ℕ → ℕ) → Type 0

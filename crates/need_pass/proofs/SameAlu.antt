@@ -1,5 +1,5 @@
 -- Non-interference of the operations at one bit of the result.
-use Rattle.std.proofs.Common.{◌≡◌, ◌≢◌, ◌⊎◌, ℕ, zero, suc, ◌+◌, ◌-◌, ◌*◌, ◌/◌, ◌%◌, ◌^◌, ◌<◌, ◌≤◌, Bool, true, false, cond, refl, sym, ◌∙◌, ap, subst, arith, inl, inr}
+use Rattle.std.proofs.Common.{◌≡◌, ◌⊎◌, ℕ, ◌+◌, ◌-◌, ◌*◌, ◌/◌, ◌%◌, ◌^◌, ◌<◌, refl, sym, ◌∙◌, ap, arith, inl, inr}
 use Rattle.std.specs.Int.{bit_at}
 use Rattle.std.specs.Prelude.{min, max}
 use Rattle.std.proofs.lemmas.Bool.{cases_lt, cases_eq}
@@ -7,7 +7,7 @@ use Rattle.std.proofs.lemmas.Nat.Bits.{bit_at-lt, bit_at_and, bit_at_or, bit_at_
 use Rattle.bit_field.proofs.Low.{same_rest}
 use Rattle.rv_table.specs.Arithmetic.{alu, shift_signed}
 use Rattle.rv_table.specs.declared.operation.AluKind.{AluKind}
-use Rattle.rv_table.specs.declared.operation.AluKind.TheVariants.{Add, Sub, Sll, Slt, Sltu, Xor, Srl, Sra, Or, And, Mul, Mulh, Mulhsu, Mulhu, Div, Divu, Rem, Remu}
+use Rattle.rv_table.specs.declared.operation.AluKind.TheVariants.{Add, Sub, Sll, Xor, Srl, Sra, Or, And, Mul}
 use Rattle.need_pass.specs.Links.{FromA, FromB, FromImmediate}
 use Rattle.need_pass.proofs.SameResult.{same_add, same_sub, same_mul, same_xor, same_and, same_or, same_shl, same_shr, same_all}
 use Rattle.need_pass.proofs.SignedShift.{shift_signed-low, shift_signed-high}

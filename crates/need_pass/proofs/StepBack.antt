@@ -1,22 +1,17 @@
 -- One instruction's step back: the parts of the pass, put together, are the roots and the links.
-use Rattle.std.proofs.Common.{◌≡◌, ◌≢◌, ◌↔◌, ◌⊎◌, ℕ, ◌+◌, ◌-◌, ◌*◌, ◌/◌, ◌%◌, ◌^◌, ◌<◌, ◌≤◌, Bool, true, false, cond, leb, eqb, refl, sym, ◌∙◌, ap, subst, arith, eq-eqb, inl, inr}
+use Rattle.std.proofs.Common.{◌≡◌, ◌↔◌, ◌⊎◌, ℕ, ◌+◌, ◌*◌, ◌/◌, ◌^◌, ◌<◌, ◌≤◌, Bool, true, false, cond, leb, eqb, refl, sym, ◌∙◌, ap, arith, eq-eqb, inl, inr}
 use Rattle.std.specs.Int.{bit_at}
 use Rattle.std.specs.Prelude.{bit_or, ◌&&◌}
-use Rattle.std.proofs.lemmas.Bool.{cases_lt, cases_eq, cases_Bool, false≢true}
+use Rattle.std.proofs.lemmas.Bool.{cases_eq, false≢true}
 use Rattle.std.proofs.lemmas.Bool.Decides.{nat_tests}
-use Rattle.std.proofs.lemmas.Nat.Bits.{bit_at-lt, bit_at-zero, bit_at_or, bit_at_above}
+use Rattle.std.proofs.lemmas.Nat.Bits.{bit_at-lt, bit_at-zero, bit_at_or}
 use Rattle.bit_field.proofs.Low.{bit_at-mod, bit_at-shr}
 use Rattle.rv_isa.specs.declared.effect.Retired.{Retired}
 use Rattle.rv_table.specs.Accesses.{byte_of}
 use Rattle.rv_table.specs.Operations.{operation_of}
-use Rattle.rv_table.specs.declared.operation.LoadKind.{LoadKind}
-use Rattle.rv_table.specs.declared.operation.LoadKind.TheVariants.{Lb, Lh, Lw, Lbu, Lhu}
-use Rattle.rv_table.specs.declared.operation.Operation.{Operation}
-use Rattle.rv_table.specs.declared.operation.Operation.TheVariants.{Illegal, FetchFault, Lui, Auipc, Jal, Jalr, Branch, Load, Store, AluImmediate, Alu, Fence, Ecall, Ebreak, ReadCounter}
-use Rattle.need_pass.specs.Links.{Link, LinkA, LinkB, LinkLoaded, FromLoaded, writes, loads, stores, byte_number, stored_bytes}
+use Rattle.need_pass.specs.Links.{LinkA, LinkB, LinkLoaded, writes, loads, stores, byte_number, stored_bytes}
 use Rattle.need_pass.specs.Masks.{IsMaskOf, HasOne}
-use Rattle.need_pass.specs.Needed.{Root, RootA, RootB}
-use Rattle.need_pass.specs.Places.{Place, Register, Byte, IsPlace}
+use Rattle.need_pass.specs.Needed.{RootA, RootB}
 
 abbrev pub IsRegister : ℕ → Type 0
 IsRegister r = (0 < r) × (r < 32)

@@ -1,14 +1,12 @@
 -- One instruction's step back, by its roots and links.
-use Rattle.std.proofs.Common.{◌≡◌, ◌↔◌, ◌⊎◌, ℕ, ◌+◌, ◌*◌, ◌^◌, ◌<◌, ◌≤◌, Bool, true, false, refl, sym, ◌∙◌, ap, subst, arith, inl, inr}
+use Rattle.std.proofs.Common.{◌≡◌, ◌⊎◌, ℕ, ◌+◌, ◌*◌, ◌<◌, refl, sym, ◌∙◌, ap, arith, inl, inr}
 use Rattle.std.specs.Int.{bit_at}
-use Rattle.std.proofs.lemmas.Bool.{cases_lt}
-use Rattle.std.proofs.lemmas.Nat.Bits.{bit_at_above}
 use Rattle.rv_isa.specs.declared.effect.Retired.{Retired}
 use Rattle.rv_table.specs.Operations.{operation_of}
 use Rattle.rv_table.specs.declared.operation.LoadKind.TheVariants.{Lb, Lh, Lw, Lbu, Lhu}
 use Rattle.rv_table.specs.declared.operation.Operation.{Operation}
-use Rattle.rv_table.specs.declared.operation.Operation.TheVariants.{Illegal, FetchFault, Lui, Auipc, Jal, Jalr, Branch, Load, Store, AluImmediate, Alu, Fence, Ecall, Ebreak, ReadCounter}
-use Rattle.need_pass.specs.Links.{Link, LinkLoaded, writes, loads, stores, byte_number, stored_bytes}
+use Rattle.rv_table.specs.declared.operation.Operation.TheVariants.{Load}
+use Rattle.need_pass.specs.Links.{Link, LinkLoaded, writes, stores, byte_number}
 use Rattle.need_pass.specs.Needed.{Root}
 use Rattle.need_pass.specs.Places.{Place, Register, Byte, IsPlace}
 use Rattle.need_pass.specs.Steps.{StepsBack, IsSettled}

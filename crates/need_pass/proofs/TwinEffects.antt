@@ -1,25 +1,24 @@
 -- What twin actions do: what is seen of them, the register that they write and the bytes that they store.
-use Rattle.std.proofs.Common.{◌≡◌, ◌≢◌, ◌⊎◌, ℕ, zero, suc, ◌+◌, ◌-◌, ◌*◌, ◌/◌, ◌%◌, ◌^◌, ◌<◌, ◌≤◌, Bool, true, false, cond, ltb, leb, eqb, refl, sym, ◌∙◌, ap, subst, arith, eq-eqb, eqb-true, inl, inr}
+use Rattle.std.proofs.Common.{◌≡◌, ℕ, ◌+◌, ◌-◌, ◌*◌, ◌/◌, ◌%◌, ◌^◌, ◌<◌, Bool, true, false, cond, refl, sym, ◌∙◌, ap, subst, arith, eqb-true, inl, inr}
 use Rattle.std.specs.Int.{bit_at}
-use Rattle.std.specs.Prelude.{not, ◌&&◌, ◌==◌, Option, Some, None}
-use Rattle.std.proofs.lemmas.Bool.{cases_lt, cases_eq, cases_Bool, false≢true}
+use Rattle.std.specs.Prelude.{not, ◌&&◌, Some}
+use Rattle.std.proofs.lemmas.Bool.{cases_eq, cases_Bool}
 use Rattle.std.proofs.lemmas.Bool.Decides.{nat_tests}
 use Rattle.avf_base.specs.declared.end.End.TheVariants.{Exit}
 use Rattle.elf_load.specs.Image.{LoadedImage, word_in_ram}
 use Rattle.rv_isa.specs.Effects.{load_of, store_of}
-use Rattle.rv_isa.specs.Instruction.{given, memory_after, put_reg, end_of}
-use Rattle.rv_table.specs.Accesses.{accesses, byte_of, load_size, store_size, loaded, stored}
+use Rattle.rv_isa.specs.Instruction.{given, memory_after, end_of}
+use Rattle.rv_table.specs.Accesses.{accesses, load_size, store_size, stored}
 use Rattle.rv_table.specs.Actions.{judged, access_of, some_executable}
 use Rattle.rv_table.specs.Effects.{byte_put, written_register}
 use Rattle.rv_table.specs.declared.action.Action.{Action}
-use Rattle.rv_table.specs.declared.action.Action.TheVariants.{Nothing, Writes, Loads, Stores, Puts, Exits, Traps}
+use Rattle.rv_table.specs.declared.action.Action.TheVariants.{Loads, Stores, Traps}
 use Rattle.rv_table.specs.declared.op.Op.{Op}
 use Rattle.rv_table.specs.declared.operation.LoadKind.{LoadKind}
 use Rattle.rv_table.specs.declared.operation.LoadKind.TheVariants.{Lb, Lh, Lw, Lbu, Lhu}
 use Rattle.rv_table.specs.declared.operation.StoreKind.{StoreKind}
 use Rattle.rv_table.specs.declared.operation.StoreKind.TheVariants.{Sb, Sh, Sw}
 use Rattle.rv_table.specs.declared.operation.Operation.{Operation}
-use Rattle.rv_table.specs.declared.operation.Operation.TheVariants.{Load}
 use Rattle.need_pass.specs.Links.{LinkA, LinkB, LinkLoaded, FromLoaded, has_byte, byte_number, stored_bytes}
 use Rattle.need_pass.proofs.SameAccess.{same_loaded, same_byte_of}
 use Rattle.need_pass.proofs.Twins.{Twins, nothing, writes, loads, stores, puts, exits, traps}

@@ -1,9 +1,8 @@
 -- What two instructions do whose operands agree in the bits with a link or a root: the same, but for values.
-use Rattle.std.proofs.Common.{◌≡◌, ◌≢◌, ◌⊎◌, ℕ, zero, suc, ◌+◌, ◌-◌, ◌*◌, ◌/◌, ◌%◌, ◌^◌, ◌<◌, ◌≤◌, Bool, true, false, cond, ltb, leb, eqb, refl, sym, ◌∙◌, ap, subst, arith, eqb-true, inl, inr}
+use Rattle.std.proofs.Common.{◌≡◌, ◌≢◌, ◌⊎◌, ℕ, ◌+◌, ◌*◌, ◌/◌, ◌%◌, ◌^◌, ◌<◌, Bool, true, false, cond, refl, sym, ◌∙◌, ap, subst, arith, eqb-true, inl, inr}
 use Rattle.std.specs.Int.{bit_at}
 use Rattle.std.specs.Prelude.{not, ◌&&◌, ◌==◌}
-use Rattle.std.proofs.lemmas.Bool.{cases_lt, cases_eq, cases_Bool}
-use Rattle.std.proofs.lemmas.Bool.Decides.{nat_tests}
+use Rattle.std.proofs.lemmas.Bool.{cases_eq}
 use Rattle.std.proofs.lemmas.Nat.Bits.{same_from_bits_below}
 use Rattle.bit_field.proofs.Low.{bit_at-shr, same_rest}
 use Rattle.rv_table.specs.Accesses.{load_size, store_size}
@@ -12,7 +11,6 @@ use Rattle.rv_table.specs.Arithmetic.{alu, sum32}
 use Rattle.rv_table.specs.declared.action.Action.{Action}
 use Rattle.rv_table.specs.declared.action.Action.TheVariants.{Nothing, Writes, Loads, Stores, Puts, Exits, Traps}
 use Rattle.rv_table.specs.declared.op.Op.{Op}
-use Rattle.rv_table.specs.declared.operation.BranchKind.{BranchKind}
 use Rattle.rv_table.specs.declared.operation.LoadKind.{LoadKind}
 use Rattle.rv_table.specs.declared.operation.StoreKind.{StoreKind}
 use Rattle.rv_table.specs.declared.operation.CounterKind.TheVariants.{Cycle, Instret, Cycleh, Instreth}

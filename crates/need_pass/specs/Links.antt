@@ -7,15 +7,16 @@ use Rattle.rv_isa.specs.declared.effect.Retired.{Retired}
 use Rattle.rv_table.specs.Operations.{operation_of}
 use Rattle.rv_table.specs.declared.op.Op.{Op}
 use Rattle.rv_table.specs.declared.operation.AluKind.{AluKind}
-use Rattle.rv_table.specs.declared.operation.AluKind.TheVariants.{Add, Sub, Sll, Slt, Sltu, Xor, Srl, Sra, Or, And, Mul, Mulh, Mulhsu, Mulhu, Div, Divu, Rem, Remu}
+use Rattle.rv_table.specs.declared.operation.AluKind.TheVariants.{Add, Sub, Sll, Xor, Srl, Sra, Or, And, Mul}
 use Rattle.rv_table.specs.declared.operation.LoadKind.{LoadKind}
-use Rattle.rv_table.specs.declared.operation.LoadKind.TheVariants.{Lb, Lh, Lw, Lbu, Lhu}
+use Rattle.rv_table.specs.declared.operation.LoadKind.TheVariants.{Lb, Lh}
 use Rattle.rv_table.specs.declared.operation.Operation.{Operation}
-use Rattle.rv_table.specs.declared.operation.Operation.TheVariants.{Illegal, FetchFault, Lui, Auipc, Jal, Jalr, Branch, Load, Store, AluImmediate, Alu, Fence, Ecall, Ebreak, ReadCounter}
+use Rattle.rv_table.specs.declared.operation.Operation.TheVariants.{Load, AluImmediate, Alu}
 use Rattle.need_pass.specs.Places.{Place, Register, Byte}
 
 -- From bit k of a to bit j of the result of two registers. An operand bit of AND and OR that the other masks has no link;
--- where both could mask, it is a that counts. Sums carry upwards only. A shift moves its bits, and SRA spreads bit 31.
+-- where both could mask, it is a that counts. Sums carry upwards only. A shift moves its bits, and SRA spreads bit 31. In
+-- comparisons, high words of products, quotients and remainders every bit has a link to every bit.
 abbrev pub FromA : AluKind → ℕ → ℕ → ℕ → ℕ → Type 0
 FromA Add a b k j = k ≤ j
 FromA Sub a b k j = k ≤ j

@@ -5,7 +5,7 @@ use Rattle.rv_isa.specs.Instruction.{State}
 use Rattle.rv_table.specs.Operations.{operation_of}
 use Rattle.rv_table.specs.declared.op.Op.{Op}
 use Rattle.rv_table.specs.declared.operation.Operation.{Operation}
-use Rattle.rv_table.specs.declared.operation.Operation.TheVariants.{Illegal, FetchFault, Lui, Auipc, Jal, Jalr, Branch, Load, Store, AluImmediate, Alu, Fence, Ecall, Ebreak, ReadCounter}
+use Rattle.rv_table.specs.declared.operation.Operation.TheVariants.{Jalr, Branch, Load, Store, Ecall}
 use Rattle.need_pass.specs.Links.{Link}
 use Rattle.need_pass.specs.Places.{Place, Register, Byte, IsPlace, bit_of}
 

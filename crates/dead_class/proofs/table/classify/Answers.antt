@@ -1,4 +1,4 @@
-use Rattle.std.proofs.Common.{◌≡◌, ℕ, ◌+◌, ◌-◌, ◌<◌, List, length, drop, ap, sym, ◌∙◌, subst, arith}
+use Rattle.std.proofs.Common.{◌≡◌, ℕ, ◌+◌, ◌-◌, List, length, drop, ap, sym, ◌∙◌, arith}
 use Rattle.std.proofs.lemmas.List.{take_at, reverse-reverse}
 use Rattle.dead_class.proofs.Kept.{kept_none, kept_by, classes-length}
 use Rattle.dead_class.proofs.Unread.{unread_is_unneeded}

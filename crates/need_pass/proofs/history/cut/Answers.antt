@@ -1,7 +1,7 @@
-use Rattle.std.proofs.Common.{◌≡◌, ltb, sym, ◌∙◌, ap, subst, length, take, arith, rules}
+use Rattle.std.proofs.Common.{ltb, sym, subst, rules}
 use Rattle.std.proofs.lemmas.List.Sorted.{IsPartitionPoint-from_clause}
 use Rattle.need_pass.proofs.Histories.{falling_above, kept_above, kept_later}
-use Rattle.need_pass.specs.Histories.{mask_at, IsFalling}
+use Rattle.need_pass.specs.Histories.{IsFalling}
 use Rattle.need_pass.proofs.history.cut.Goals as goal
 
 pub returns-clause-above : goal.returns-clause-above

@@ -1,4 +1,4 @@
-use Rattle.std.proofs.Common.{◌≡◌, ℕ, ◌+◌, ◌-◌, length, drop, ap, subst, sym, arith}
+use Rattle.std.proofs.Common.{◌≡◌, ℕ, ◌+◌, ◌-◌, length, drop, ap, subst, arith}
 use Rattle.std.proofs.lemmas.List.{take_at}
 use Rattle.need_pass.proofs.NeedLaw.{need_law}
 use Rattle.need_pass.proofs.Passes.{IsPassed, passed_none, passed_more, passed_all}

@@ -1,5 +1,4 @@
-use Rattle.std.proofs.Common.{◌≡◌, ℕ, ◌-◌, leb, sym, ◌∙◌, ap, subst, get_or, length, arith, rules}
-use Rattle.std.proofs.lemmas.List.{get_or_read}
+use Rattle.std.proofs.Common.{◌≡◌, ℕ, ◌-◌, leb, sym, ◌∙◌, ap, subst, get_or, arith, rules}
 use Rattle.std.proofs.lemmas.List.Sorted.{IsPartitionPoint-from_clause}
 use Rattle.need_pass.proofs.Histories.{falling_from, none_from, last_from}
 use Rattle.need_pass.specs.Histories.{mask_at, IsFalling}

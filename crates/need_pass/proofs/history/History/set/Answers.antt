@@ -1,4 +1,4 @@
-use Rattle.std.proofs.Common.{◌≡◌, ℕ, ◌<◌, sym, ◌∙◌, ap}
+use Rattle.std.proofs.Common.{sym, ◌∙◌, ap}
 use Rattle.need_pass.proofs.Histories.{set_pushed, set_kept}
 use Rattle.need_pass.specs.Histories.{mask_at}
 use Rattle.need_pass.proofs.history.History.set.Goals as goal
