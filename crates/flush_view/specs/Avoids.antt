@@ -1,0 +1,47 @@
+-- Avoiding a set X of lines: no access in them.
+use Rattle.std.specs.Prelude.{◌≡◌, ⊤, ℕ, ◌/◌, Bool, false, List, [], ◌∷◌, Option, Some, None, if◌then◌else◌}
+use Rattle.elf_load.specs.Image.{LoadedImage}
+use Rattle.rv_table.specs.Actions.{with_counter}
+use Rattle.rv_table.specs.declared.action.Action.{Action}
+use Rattle.rv_table.specs.declared.action.Action.TheVariants.{Loads, Stores}
+use Rattle.rv_isa.specs.Instruction.{State as Arch, Log, action_in, first_clock, op_at, reg}
+use Rattle.cyc_machine.specs.State.{State}
+use Rattle.flush_view.specs.Flush.{flush}
+
+-- the byte address that an action loads from or stores to
+abbrev pub place_of : Action → Option ℕ
+place_of (Loads kind rd x) = Some x
+place_of (Stores kind x y) = Some x
+place_of _ = None
+
+abbrev pub IsOutside : (ℕ → Bool) → Option ℕ → Type 0
+IsOutside out (Some x) = out (x / 16) ≡ false
+IsOutside out None = ⊤
+
+-- an action accesses no line of X
+abbrev pub Avoids : (ℕ → Bool) → Action → Type 0
+Avoids out done = IsOutside out (place_of done)
+
+abbrev pub AvoidsAll : (ℕ → Bool) → List Action → Type 0
+AvoidsAll out [] = ⊤
+AvoidsAll out (done ∷ actions) = Avoids out done × AvoidsAll out actions
+
+-- what the instruction at the address reached does
+abbrev pub next_action : LoadedImage → Arch → Action
+next_action image at =
+    let op = op_at image at.pc in
+    action_in image op at.pc (reg at.registers op.rs1) (with_counter op (first_clock at.clocks) at.count (reg at.registers op.rs2))
+
+-- Neither what the log says, nor anything that the flush completes, nor, where the flush hasn't ended, the instruction at its
+-- address accesses a line of X.
+pub record AvoidsFlush (out : ℕ → Bool) (s : State) (clocks : List ℕ) (log : Log) : Type 0 where
+  pub done : AvoidsAll out (flush s clocks log).log.actions
+  pub next : (flush s clocks log).stop ≡ None → Avoids out (next_action s.image (flush s clocks log))
+
+-- memory in which the bytes of the lines of X read 0
+unfoldable pub masked : (ℕ → Bool) → (ℕ → ℕ) → ℕ → ℕ
+masked out memory p = if out (p / 16) then 0 else memory p
+
+-- the state but for the bytes of the lines of X
+abbrev pub outside : (ℕ → Bool) → Arch → Arch
+outside out at = record at { memory = masked out at.memory }
