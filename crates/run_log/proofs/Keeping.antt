@@ -1,5 +1,5 @@
 -- A journal that is kept cycle by cycle is that of the run.
-use Rattle.std.proofs.Common.{◌≡◌, ℕ, suc, ◌+◌, ◌<◌, ◌≤◌, List, Bool, true, false, Option, Some, None, refl, sym, ap, ◌∙◌, subst, arith, add-one, inl, inr, ◌⊎◌}
+use Rattle.std.proofs.Common.{◌≡◌, ℕ, suc, ◌+◌, ◌<◌, ◌≤◌, List, length, Bool, true, false, Option, Some, None, refl, sym, ap, ◌∙◌, subst, arith, add-one, inl, inr, ◌⊎◌}
 use Rattle.std.specs.Prelude.{is_some, ◌&&◌, if◌then◌else◌}
 use Rattle.avf_base.specs.declared.end.End.{End}
 use Rattle.elf_load.specs.Image.{LoadedImage}
@@ -12,6 +12,7 @@ use Rattle.cyc_machine.specs.declared.report.CycleReport.{CycleReport}
 use Rattle.cyc_machine.specs.Cycle.{cycle, cycled, end_in, event_in, fate, issued_from, put_in, retires}
 use Rattle.cyc_machine.specs.State.{State, reset}
 use Rattle.run_log.specs.Run.{IsRecord, IsRunning, clocks_below, cycle_if, events_below, goes, issues, issues_below, issues_clock, output_below, retired_below, state_at, with_one}
+use Rattle.run_log.proofs.Issued.{retired-issued}
 use Rattle.run_log.specs.Journals.{Adds, IsEmpty, closed, noted_if}
 use Rattle.run_log.specs.declared.journal.Journal.{Journal}
 
@@ -99,6 +100,9 @@ module _ (image : LoadedImage) (shape : Shape) (t : ℕ) (s : State) (reads : Bo
 
   pub end_as : report.end ≡ end_in (state_at image shape t)
   end_as = reports.end ∙ ap end_in kept.state
+
+  pub issued_after : new.retired ≤ length new.issues.items
+  issued_after = let h = retired-issued image shape (suc t) in rw (retired_after, issues_after) (omega (arith, h))
 
   pub few_after : new.retired ≤ t + 1
   few_after = count_below report.retired old.retired new.retired t adds.retired kept.few

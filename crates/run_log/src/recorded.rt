@@ -22,6 +22,7 @@ pub struct Recorded<'i> {
 }
 
 impl<'i> Model for Recorded<'i> {
+    ghost use Rattle.std.specs.Prelude.{◌≤◌, length};
     ghost use Rattle.run_log.specs.Run.{RecordedRun};
 
     ghost Value = { RecordedRun };
@@ -37,6 +38,8 @@ impl<'i> Model for Recorded<'i> {
       issues = x.issues.items;
       clocks = x.clocks.items;
     } };
+
+    ghost invariant = { λ x. x.instructions ≤ length x.issues.items };
 }
 
 impl<'i> Recorded<'i> {
@@ -93,7 +96,7 @@ impl<'i> Recorded<'i> {
 
     /// The cycle in which instruction `i` left EX.
     pub fn issued_at(&self, i: u32) -> u32
-        requires { i < length self.now.issues }
+        requires { i < self.now.instructions }
         ensures { result ≡ slice_index self.now.issues i }
     {
         self.issues[i as usize]

@@ -112,6 +112,7 @@ fn closed<'i>(
     end: End,
     journal: Journal,
 ) -> Recorded<'i>
+    requires { journal.retired ≤ length journal.issues.items }
     ensures { result ≡ journals.closed image.now shape.now cycles end journal }
 {
     let Journal {

@@ -116,7 +116,7 @@ fn check_clock<L: Ledger>(
     let run = record(alloc, &image, 6, steps)?;
     assert_eq!(rt; run.end(), End::Exit(2));
     assert!(rt; run.clocks() == [2].as_slice());
-    assert!(rt; run.issues.len() == 4);
+    assert_eq!(rt; run.instructions(), 3);
     assert_eq!(rt; run.issued_at(0), 2);
     Ok(())
 }

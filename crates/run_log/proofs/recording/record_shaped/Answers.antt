@@ -1,12 +1,25 @@
 use Rattle.std.proofs.Common.{◌+◌, refl, sym, ap, ◌∙◌, subst, arith, add-one}
 use Rattle.rv_table.specs.Actions.{is_clocked}
 use Rattle.pipe_latch.specs.Latches.{op_of_latch}
-use Rattle.run_log.proofs.Keeping.{Kept, Reports, ends, goes_on, starts}
+use Rattle.run_log.proofs.Keeping.{Kept, Reports, ends, goes_on, issued_after, starts}
 use Rattle.run_log.proofs.recording.record_shaped.Goals as goal
 
 pub loop-cycle-init : goal.loop-cycle-init
 loop-cycle-init g c =
     (starts c.args.image.now c.args.shape.now c.in_ok-machine.machine c.new-journal.result c.in_ok-machine.ensures c.new-journal.ensures, omega arith)
+
+pub closed-requires : goal.closed-requires
+closed-requires g c =
+    let reports : Reports c.loop-cycle.machine c.step-report.result = record {
+      put = c.step-report.ensures.put;
+      issued = c.step-report.ensures.issued;
+      retired = c.step-report.ensures.retired;
+      event = c.step-report.ensures.event;
+      end = c.step-report.ensures.end;
+    } in
+    issued_after c.args.image.now c.args.shape.now c.loop-cycle.cycle c.loop-cycle.machine c.reads_clock-reads_clock.result c.step-report.result c.loop-cycle.journal c.note.new.self
+    c.loop-cycle.invariant.0 reports c.in_ok-note.ensures
+    (c.reads_clock-reads_clock.ensures ∙ ap (λ d. is_clocked (op_of_latch d)) c.id_ex.ensures)
 
 pub returns-in-Some-clause-answer : goal.returns-in-Some-clause-answer
 returns-in-Some-clause-answer g c =
