@@ -1,7 +1,7 @@
 // The program: hands the words, the real files, the standard streams and two counters to `run_tool`.
 #![tactic(auto)]
 
-ghost use Rattle.std.specs.Prelude.{◌≡◌, ◌<◌};
+ghost use Rattle.std.specs.Prelude.{◌≡◌, ◌<◌, ◌⊎◌, IfErr};
 
 use avf_base::{FileShelf, StdSink, counter};
 use avf_tool::run_tool;
@@ -19,7 +19,9 @@ const NO_WORDS: u8 = 1;
 const NO_MEMORY: u8 = 8;
 
 // The words after the program's name, or the status that says why there are none.
-fn words(rt: &HostRuntime) -> Result<Vec<String>, u8> {
+fn words(rt: &HostRuntime) -> Result<Vec<String>, u8>
+    ensures status { IfErr result (λ n. (n ≡ 1) ⊎ (n ≡ 8)) }
+{
     let args = match env::args(rt) {
         Ok(args) => args,
         Err(error) => {
