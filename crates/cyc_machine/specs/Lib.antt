@@ -7,5 +7,7 @@ pub mod Pipeline
 pub mod PortBits
 pub mod PortState
 pub mod RegisterBits
+pub mod Run
 pub mod State
 pub mod Strikes
+pub mod Turn
