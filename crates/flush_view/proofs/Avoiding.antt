@@ -7,7 +7,7 @@ use Rattle.rv_table.specs.Effects.{written_register}
 use Rattle.rv_table.specs.declared.op.Op.{Op}
 use Rattle.rv_table.specs.declared.action.Action.{Action}
 use Rattle.rv_table.specs.declared.action.Action.TheVariants.{Nothing, Writes, Loads, Stores, Puts, Exits, Traps}
-use Rattle.rv_isa.specs.Instruction.{State as Arch, action_in, completed, first_clock, given, instruction, later_clocks, memory_after, next_count, op_at, performed, put_reg, reg, with_action}
+use Rattle.rv_isa.specs.Instruction.{State as Arch, action_in, completed, first_clock, given, instruction, later_clocks, memory_after, next_count, performed, put_reg, with_action}
 use Rattle.flush_view.specs.Avoids.{Avoids, AvoidsAll, masked, next_action, outside}
 use Rattle.flush_view.specs.Flush.{Item, completed_item, completed_path, is_reached}
 use Rattle.flush_view.proofs.Masked.{given-masked, memory_after-masked}
@@ -73,11 +73,7 @@ outside-path image out (item ∷ items) at h = go (outside-path image out items 
         ∙ ap (completed_path image items) (outside-completed image out item.op item.pc (item.a at.registers) (item.b at.registers) at (before-item image out item at (before h)).1)
     go ih before false h = refl
 
--- the next instruction
-pub outside-instruction : (image : LoadedImage) (out : ℕ → Bool) (at : Arch) → Avoids out (next_action image at) → outside out (instruction image at) ≡ instruction image (outside out at)
-unfolding instruction
-outside-instruction image out at h = outside-completed image out (op_at image at.pc) at.pc (reg at.registers (op_at image at.pc).rs1) (reg at.registers (op_at image at.pc).rs2) at h
-
+-- the next instruction is logged
 pub instruction-log : (image : LoadedImage) (at : Arch) → (instruction image at).log.actions ≡ with_action at.log.actions (next_action image at)
 unfolding instruction completed
 instruction-log image at = refl

@@ -1,6 +1,6 @@
 -- The flush law of the machine's cycle, outside X.
-use Rattle.std.proofs.Common.{◌≡◌, inl, inr, ℕ, Bool, true, false, List, [], ◌∷◌, ◌++◌, map, refl, ap, sym, ◌∙◌, subst}
-use Rattle.std.specs.Prelude.{Some, None, if◌then◌else◌}
+use Rattle.std.proofs.Common.{◌≡◌, ℕ, Bool, true, false, List, [], ◌∷◌, ◌++◌, length, map, refl, ap, sym, ◌∙◌, subst}
+use Rattle.std.specs.Prelude.{Option, Some, None, ◌==◌, ◌&&◌, is_none, nat_lt, if◌then◌else◌}
 use Rattle.elf_load.specs.Image.{LoadedImage}
 use Rattle.avf_base.specs.declared.end.End.{End}
 use Rattle.rv_table.specs.Effects.{byte_put}
@@ -10,21 +10,24 @@ use Rattle.rv_isa.specs.Instruction.{State as Arch, Log, end_of, instruction, lo
 use Rattle.pipe_latch.specs.Forwarding.{operand, settled}
 use Rattle.pipe_latch.specs.Latches.{op_of_latch}
 use Rattle.inst_buf.specs.Buffer.{entries}
-use Rattle.cyc_machine.specs.Cycle.{action_in_m, cycle, end_in}
-use Rattle.cyc_machine.specs.Facts.{IsMachine}
+use Rattle.cyc_machine.specs.Cycle.{action_in_m, cycle, end_in, fate}
 use Rattle.cyc_machine.specs.Pipeline.{register}
 use Rattle.cyc_machine.specs.State.{State}
 use Rattle.flush_view.specs.Avoids.{Avoids, AvoidsAll, AvoidsFlush, masked, next_action, outside}
 use Rattle.flush_view.specs.Coherence.{IsCoherent}
-use Rattle.flush_view.specs.Flush.{Item, completed_item, completed_path, fed, flush, is_reached, item_of_entry, latched, path, path_of}
-use Rattle.flush_view.specs.FlushLaw.{FlushLaw, IsSameOrNext}
+use Rattle.flush_view.specs.Flush.{Item, completed_item, completed_path, entries_completed, fed, flush, is_reached, item_of_entry, latched, path, path_of}
+use Rattle.flush_view.specs.FlushLaw.{FlushLaw, moved_flush, moves_on, remaining}
 use Rattle.flush_view.specs.MemoryLaw.{done_in}
 use Rattle.flush_view.specs.Views.{view}
-use Rattle.flush_view.proofs.Avoiding.{before-logged, before-path, instruction-log, before-item, outside-completed, outside-instruction, outside-path, outside-performed}
+use Rattle.flush_view.proofs.Avoiding.{before-logged, before-path, instruction-log, before-item, outside-completed, outside-path, outside-performed}
+use Rattle.flush_view.proofs.Counts.{flush-counts, flush-leaves}
 use Rattle.flush_view.proofs.Masked.{flush_over, given-masked, masked-law}
-use Rattle.flush_view.proofs.Path.{Same}
+use Rattle.flush_view.proofs.Path.{path-added}
+use Rattle.flush_view.proofs.PipeLaw.{added_to, flush_more}
 use Rattle.flush_view.proofs.Piped.{piped}
 use Rattle.flush_view.proofs.Pipes.{flush_pipe, latched_pipe}
+use Rattle.wb_cache.proofs.Kept.{AreBytes}
+use Rattle.flush_view.proofs.Steady.{IsSteady}
 
 -- ---- a path over masked memory whose log avoids X
 
@@ -56,28 +59,49 @@ module _ (s : State) (out : ℕ → Bool) (clocks : List ℕ) (log : Log) where
   latched-masked : Avoids out (action_in_m s) → outside out (latched s clocks log) ≡ latched_pipe (piped s) (masked out (view s)) clocks log
   latched-masked h = outside-performed s.image out (action_in_m s) (record { registers = put_reg s.w.rd s.w.value (register s.registers); memory = view s; pc = s.npc; count = s.issued; clocks = clocks; log = log; stop = None }) h
 
-  over-path : Avoids out (action_in_m s) → over_mask ≡ completed_path s.image (path s) (outside out (latched s clocks log))
-  over-path h =
-      ap (λ (items : List Item). completed_path s.image items (latched_pipe (piped s) (masked out (view s)) clocks log)) (path-masked h)
-      ∙ ap (completed_path s.image (path s)) (sym (latched-masked h))
+  -- whatever is put behind the path
+  over-path : (behind : List Item → List Item) → Avoids out (action_in_m s) → completed_path s.image (behind (path_of s.image (action_in_m s) s.w (masked out (view s)) s.d (entries s.buffer))) (latched_pipe (piped s) (masked out (view s)) clocks log) ≡ completed_path s.image (behind (path s)) (outside out (latched s clocks log))
+  over-path behind h =
+      ap (λ (items : List Item). completed_path s.image (behind items) (latched_pipe (piped s) (masked out (view s)) clocks log)) (path-masked h)
+      ∙ ap (completed_path s.image (behind (path s))) (sym (latched-masked h))
 
-  -- M is in the flush's log
+  -- M is in the log of what is completed
+  first : (items : List Item) → AvoidsAll out (completed_path s.image items (latched s clocks log)).log.actions → Avoids out (action_in_m s)
+  first items h = (before-logged out log.actions (action_in_m s) (before-path s.image out items (latched s clocks log) h)).1
+
   pub flush-first : AvoidsAll out (flush s clocks log).log.actions → Avoids out (action_in_m s)
   unfolding flush
-  flush-first h = (before-logged out log.actions (action_in_m s) (before-path s.image out (path s) (latched s clocks log) h)).1
+  flush-first h = first (path s) h
 
   over-first : AvoidsAll out over_mask.log.actions → Avoids out (action_in_m s)
   over-first h = (before-logged out log.actions (action_in_m s) (before-path s.image out (path_of s.image (action_in_m s) s.w (masked out (view s)) s.d (entries s.buffer)) (latched_pipe (piped s) (masked out (view s)) clocks log) h)).1
 
-  pub flush-outside : AvoidsAll out (flush s clocks log).log.actions → outside out (flush s clocks log) ≡ over_mask
-  unfolding flush
-  flush-outside h = outside-path s.image out (path s) (latched s clocks log) h ∙ sym (over-path (flush-first h))
+  pub more-outside : (more : List Item) → AvoidsAll out (completed_path s.image (path s ++ more) (latched s clocks log)).log.actions → outside out (completed_path s.image (path s ++ more) (latched s clocks log)) ≡ flush_more more (piped s) (masked out (view s)) clocks log
+  more-outside more h = outside-path s.image out (path s ++ more) (latched s clocks log) h ∙ sym (over-path (λ items. items ++ more) (first (path s ++ more) h))
 
   pub flush-masked : AvoidsAll out over_mask.log.actions → outside out (flush s clocks log) ≡ over_mask
   unfolding flush
   flush-masked h =
-      let e = over-path (over-first h) in
+      let e = over-path (λ items. items) (over-first h) in
       masked-path s.image out (path s) (latched s clocks log) (subst (λ (x : Arch). AvoidsAll out x.log.actions) e h) ∙ sym e
+
+-- ---- where the cycle moves the flush on
+
+running_by : (all room here : Bool) (o : Option End) → (all && is_none o && room && here) ≡ true → o ≡ None
+running_by all room here None h = refl
+running_by true room here (Some e) h = absurd cc
+running_by false room here (Some e) h = absurd cc
+
+-- no end has come
+pub moves-running : (s : State) (clocks : List ℕ) (log : Log) → moves_on s clocks log ≡ true → (flush s clocks log).stop ≡ None
+unfolding moves_on
+moves-running s clocks log h =
+    running_by (entries_completed s clocks log == length (path s)) (nat_lt (length (remaining (fate s) (entries s.buffer))) 4) (s.pc == (flush s clocks log).pc) (flush s clocks log).stop h
+
+-- the flush moved on is the path completed with the entry that is fetched behind it
+pub more-moved : (s : State) (clocks : List ℕ) (log : Log) → completed_path s.image (path s ++ added_to (fate s) (piped s)) (latched s clocks log) ≡ moved_flush s clocks log
+unfolding flush moves_on
+more-moved s clocks log = path-added s.image (path s) s.pc (length (remaining (fate s) (entries s.buffer))) (latched s clocks log)
 
 -- ---- the law
 
@@ -94,24 +118,29 @@ after-logged out actions (Puts value) h k = after-action out actions (Puts value
 after-logged out actions (Exits value) h k = after-action out actions (Exits value) h k
 after-logged out actions (Traps cause) h k = after-action out actions (Traps cause) h k
 
-by_same : (image : LoadedImage) (out : ℕ → Bool) (before after from to : Arch) → outside out before ≡ from → (AvoidsAll out to.log.actions → outside out after ≡ to) → AvoidsAll out before.log.actions → (before.stop ≡ None → Avoids out (next_action image before)) → Same image from to → IsSameOrNext image out before after
-by_same image out before after from to e f done next (inl same) =
-    let x : to ≡ outside out before = same ∙ sym e in
-    inl (f (subst (λ (a : Arch). AvoidsAll out a.log.actions) (sym x) done) ∙ x)
-by_same image out before after from to e f done next (inr moved) =
-    let stop : before.stop ≡ None = ap (λ (a : Arch). a.stop) e ∙ moved.0 in
-    let x : to ≡ outside out (instruction image before) = moved.1 ∙ ap (instruction image) (sym e) ∙ sym (outside-instruction image out before (next stop)) in
-    let log : AvoidsAll out (instruction image before).log.actions = subst (AvoidsAll out) (sym (instruction-log image before)) (after-logged out before.log.actions (next_action image before) done (next stop)) in
-    inr (stop, f (subst (λ (a : Arch). AvoidsAll out a.log.actions) (sym x) log) ∙ x)
+moved-avoids : (s : State) (out : ℕ → Bool) (clocks : List ℕ) (log : Log) → AvoidsFlush out s clocks log → AvoidsAll out (moved_flush s clocks log).log.actions
+moved-avoids s out clocks log avoids = go (moves_on s clocks log) refl
+  where
+    go : (b : Bool) → moves_on s clocks log ≡ b → AvoidsAll out (if b then instruction s.image (flush s clocks log) else flush s clocks log).log.actions
+    go true h =
+        subst (AvoidsAll out) (sym (instruction-log s.image (flush s clocks log)))
+        (after-logged out (flush s clocks log).log.actions (next_action s.image (flush s clocks log)) avoids.done (avoids.next (moves-running s clocks log h)))
+    go false h = avoids.done
 
-pub flush-goes : (s : State) → IsMachine s → (out : ℕ → Bool) (clocks : List ℕ) (log : Log) → IsCoherent out s → AvoidsFlush out s (fed s clocks) log → end_in s ≡ None → IsSameOrNext s.image out (flush s (fed s clocks) log) (flush (cycle s) clocks (logged log (done_in s)))
+by_moved : (out : ℕ → Bool) (before moved from to after : Arch) → before ≡ moved → AvoidsAll out moved.log.actions → (AvoidsAll out before.log.actions → outside out before ≡ from) → to ≡ from → (AvoidsAll out to.log.actions → outside out after ≡ to) → outside out after ≡ outside out moved
+by_moved out before moved from to after e avoids f same g =
+    let x : to ≡ outside out moved = same ∙ sym (f (subst (λ (a : Arch). AvoidsAll out a.log.actions) (sym e) avoids)) ∙ ap (outside out) e in
+    g (subst (λ (a : Arch). AvoidsAll out a.log.actions) (sym x) avoids) ∙ x
+
+pub flush-goes : (s : State) → IsSteady s → AreBytes s.cache.bytes → (out : ℕ → Bool) (clocks : List ℕ) (log : Log) → IsCoherent out s → AvoidsFlush out s (fed s clocks) log → end_in s ≡ None → outside out (flush (cycle s) clocks (logged log (done_in s))) ≡ outside out (moved_flush s (fed s clocks) log)
 unfolding flush_over
-flush-goes s is out clocks log coherent avoids h =
-    by_same s.image out (flush s (fed s clocks) log) (flush (cycle s) clocks (logged log (done_in s))) _ _
-    (flush-outside s out (fed s clocks) log avoids.done)
+flush-goes s is bytes out clocks log coherent avoids h =
+    by_moved out _ _ _ _ (flush (cycle s) clocks (logged log (done_in s)))
+    (more-moved s (fed s clocks) log)
+    (moved-avoids s out (fed s clocks) log avoids)
+    (more-outside s out (fed s clocks) log (added_to (fate s) (piped s)))
+    (masked-law s is bytes out clocks log coherent (flush-first s out (fed s clocks) log avoids.done) h)
     (flush-masked (cycle s) out clocks (logged log (done_in s)))
-    avoids.done avoids.next
-    (masked-law s is out clocks log coherent (flush-first s out (fed s clocks) log avoids.done) h)
 
 -- ---- the cycle that ends the run
 
@@ -135,5 +164,5 @@ flush-ends s clocks log e h =
     let is : completed_path s.image (path s) (latched s clocks log) ≡ latched s clocks log = stopped s.image (path s) (latched s clocks log) e h in
     (ap (λ (a : Arch). a.stop) is ∙ h, ap (λ (a : Arch). a.log.output) is ∙ no_byte (action_in_m s) e log.output h)
 
-pub flush-law : (s : State) → IsMachine s → FlushLaw s (cycle s)
-flush-law s is = record { goes = flush-goes s is; ends = flush-ends s }
+pub flush-law : (s : State) → IsSteady s → AreBytes s.cache.bytes → FlushLaw s (cycle s)
+flush-law s is bytes = record { goes = flush-goes s is bytes; ends = flush-ends s; counts = flush-counts s; leaves = flush-leaves s }

@@ -21,19 +21,20 @@ use Rattle.store_buf.specs.declared.cover.Cover.{Cover}
 use Rattle.store_buf.specs.declared.cover.Cover.TheVariants.{Full, Part, None as Uncovered}
 use Rattle.wb_cache.specs.Access.{found, word_at, word_of}
 use Rattle.wb_cache.specs.Changes.{ram_byte}
-use Rattle.wb_cache.specs.Contents.{Contents, IsContents, no_slot, slot_at, slot_of, slots}
+use Rattle.wb_cache.specs.Contents.{Contents, no_slot, slot_at, slot_of, slots}
 use Rattle.wb_cache.specs.Lookup.{set_of, way_of}
 use Rattle.wb_cache.proofs.Lanes.{lane-word_at}
 use Rattle.cyc_machine.specs.declared.port.Move.{Move}
 use Rattle.cyc_machine.specs.declared.port.Move.TheVariants.{Rests, Reads, Drains, Misses, Waits, Leaves, Fills}
 use Rattle.cyc_machine.specs.Cycle.{action_in_m, move, served_m}
-use Rattle.cyc_machine.specs.Facts.{IsMachine}
 use Rattle.cyc_machine.specs.Memory.{asked_word, covered_value, load_client, load_value, loaded_of, served, served_by, store_client, word_read}
 use Rattle.cyc_machine.specs.State.{State}
 use Rattle.flush_view.specs.Views.{byte_in, cached, overlaid, view}
 use Rattle.flush_view.proofs.Loads.{clash, covered-byte, uncovered-byte}
 use Rattle.flush_view.proofs.Moves.{Tells, tells}
 use Rattle.flush_view.proofs.Overlay.{lane-byte}
+use Rattle.wb_cache.proofs.Kept.{AreBytes}
+use Rattle.flush_view.proofs.Steady.{IsSteady}
 
 -- the bytes of the slots are below 256
 index_below : (xs : List ℕ) (i : ℕ) → All (λ b. b < 2 ^ 8) xs → slice_index xs i < 256
@@ -43,12 +44,12 @@ index_below xs i all = go (cases_lt i (length xs))
     go (inl l) = All-get_or (λ b. b < 2 ^ 8) xs i 0 l all
     go (inr m) = subst (λ n. n < 256) (sym (get_or-eq_default xs 0 m)) (lit< tt)
 
-slot_below : (c : Contents) (set way o : ℕ) → IsContents c → (slots c set way).bytes o < 256
+slot_below : (c : Contents) (set way o : ℕ) → AreBytes c.bytes → (slots c set way).bytes o < 256
 unfolding slots slot_at
 slot_below c set way o is = go (nat_lt set c.shape.sets && nat_lt way c.shape.ways) (nat_lt o 16)
   where
     inner : (b : Bool) → cond b (slice_index c.bytes (16 * slot_of c.shape set way + o)) 0 < 256
-    inner true = index_below c.bytes (16 * slot_of c.shape set way + o) is.bytes
+    inner true = index_below c.bytes (16 * slot_of c.shape set way + o) is
     inner false = lit< tt
 
     go : (a b : Bool) → (cond a (slot_at c (slot_of c.shape set way)) no_slot).bytes o < 256
@@ -64,7 +65,7 @@ word_read-is c line word way v hit e = the_word v (word_at (slots c (set_of c.sh
     the_word : (a b : ℕ) → Some a ≡ Some b → a ≡ b
     the_word a b e = cc
 
-read-byte : (c : Contents) (ram : ℕ → ℕ) (word way v p : ℕ) → IsContents c → found c (word / 4) ≡ Some way → word_of c (word / 4) (word % 4) ≡ Some v → p / 4 ≡ word → byte_of v (p % 4) ≡ cached c.shape ram (slots c) p
+read-byte : (c : Contents) (ram : ℕ → ℕ) (word way v p : ℕ) → AreBytes c.bytes → found c (word / 4) ≡ Some way → word_of c (word / 4) (word % 4) ≡ Some v → p / 4 ≡ word → byte_of v (p % 4) ≡ cached c.shape ram (slots c) p
 unfolding cached
 read-byte c ram word way v p is hit e at =
     let line : p / 16 ≡ word / 4 = omega arith in
@@ -97,7 +98,7 @@ clear es addr lanes h = go (all_found es addr lanes) (none_found es addr lanes) 
     go false true h = refl
     go false false h = absurd cc
 
-module _ (s : State) (is : IsMachine s) (kind : LoadKind) (rd x : ℕ) (word : word_in_ram s.image (x / 4) ≡ true) where
+module _ (s : State) (is : IsSteady s) (bytes : AreBytes s.cache.bytes) (kind : LoadKind) (rd x : ℕ) (word : word_in_ram s.image (x / 4) ≡ true) where
   abbrev stores : List Entry
   stores = pending s.stores
 
@@ -121,7 +122,7 @@ module _ (s : State) (is : IsMachine s) (kind : LoadKind) (rd x : ℕ) (word : w
   by_read : (v wd way : ℕ) → covered stores (x / 4) mask ≡ Uncovered → x / 4 ≡ wd → found s.cache (wd / 4) ≡ Some way → word_of s.cache (wd / 4) (wd % 4) ≡ Some v → loaded_of kind x v ≡ loaded kind x (view s)
   by_read v wd way h at hit e =
       loaded-same kind x (λ p. byte_of v (p % 4)) (view s)
-      (λ p a. read-byte s.cache (ram_byte s.image s.memory) wd way v p is.cache hit e (same_word kind x p a ∙ at)
+      (λ p a. read-byte s.cache (ram_byte s.image s.memory) wd way v p bytes hit e (same_word kind x p a ∙ at)
       ∙ sym (uncovered-byte stores kind x p _ a (clear stores (x / 4) mask h))
       ∙ sym (view-inside p a))
 
@@ -149,19 +150,19 @@ module _ (s : State) (is : IsMachine s) (kind : LoadKind) (rd x : ℕ) (word : w
   by_case m Uncovered (Some v) t h e goes = by_move v m t h e
   by_case m Uncovered None t h e goes = absurd (clash (sym goes))
 
-load-value : (s : State) (is : IsMachine s) (kind : LoadKind) (rd x : ℕ) (m : Move) (b : Bool) → Tells s.cache (load_client s.image (Loads kind rd x) (pending s.stores)) (store_client s.image (pending s.stores)) m → word_in_ram s.image (x / 4) ≡ b → (served_by (if b then covered_value (covered (pending s.stores) (x / 4) (lane_mask (load_size kind) x)) (word_read m s.cache) kind x else Some 0)).goes ≡ true → (served_by (if b then covered_value (covered (pending s.stores) (x / 4) (lane_mask (load_size kind) x)) (word_read m s.cache) kind x else Some 0)).value ≡ (if b then loaded kind x (view s) else 0)
-load-value s is kind rd x m true t h goes = by_case s is kind rd x h m (covered (pending s.stores) (x / 4) (lane_mask (load_size kind) x)) (word_read m s.cache) t refl refl goes
-load-value s is kind rd x m false t h goes = refl
+load-value : (s : State) (is : IsSteady s) (bytes : AreBytes s.cache.bytes) (kind : LoadKind) (rd x : ℕ) (m : Move) (b : Bool) → Tells s.cache (load_client s.image (Loads kind rd x) (pending s.stores)) (store_client s.image (pending s.stores)) m → word_in_ram s.image (x / 4) ≡ b → (served_by (if b then covered_value (covered (pending s.stores) (x / 4) (lane_mask (load_size kind) x)) (word_read m s.cache) kind x else Some 0)).goes ≡ true → (served_by (if b then covered_value (covered (pending s.stores) (x / 4) (lane_mask (load_size kind) x)) (word_read m s.cache) kind x else Some 0)).value ≡ (if b then loaded kind x (view s) else 0)
+load-value s is bytes kind rd x m true t h goes = by_case s is bytes kind rd x h m (covered (pending s.stores) (x / 4) (lane_mask (load_size kind) x)) (word_read m s.cache) t refl refl goes
+load-value s is bytes kind rd x m false t h goes = refl
 
-pub value-by : (s : State) (is : IsMachine s) (a : Action) (m : Move) → Tells s.cache (load_client s.image a (pending s.stores)) (store_client s.image (pending s.stores)) m → (served s.image a (pending s.stores) (word_read m s.cache)).goes ≡ true → (served s.image a (pending s.stores) (word_read m s.cache)).value ≡ given s.image a (view s)
+pub value-by : (s : State) (is : IsSteady s) (bytes : AreBytes s.cache.bytes) (a : Action) (m : Move) → Tells s.cache (load_client s.image a (pending s.stores)) (store_client s.image (pending s.stores)) m → (served s.image a (pending s.stores) (word_read m s.cache)).goes ≡ true → (served s.image a (pending s.stores) (word_read m s.cache)).value ≡ given s.image a (view s)
 unfolding served load_value
-value-by s is Nothing m t goes = refl
-value-by s is (Writes rd value) m t goes = refl
-value-by s is (Loads kind rd x) m t goes = load-value s is kind rd x m (word_in_ram s.image (x / 4)) t refl goes
-value-by s is (Stores kind x y) m t goes = refl
-value-by s is (Puts value) m t goes = refl
-value-by s is (Exits value) m t goes = refl
-value-by s is (Traps cause) m t goes = refl
+value-by s is bytes Nothing m t goes = refl
+value-by s is bytes (Writes rd value) m t goes = refl
+value-by s is bytes (Loads kind rd x) m t goes = load-value s is bytes kind rd x m (word_in_ram s.image (x / 4)) t refl goes
+value-by s is bytes (Stores kind x y) m t goes = refl
+value-by s is bytes (Puts value) m t goes = refl
+value-by s is bytes (Exits value) m t goes = refl
+value-by s is bytes (Traps cause) m t goes = refl
 
-pub served-value : (s : State) → IsMachine s → (served_m s).goes ≡ true → (served_m s).value ≡ given s.image (action_in_m s) (view s)
-served-value s is goes = value-by s is (action_in_m s) (move s) (tells s.port s.cache (load_client s.image (action_in_m s) (pending s.stores)) (store_client s.image (pending s.stores))) goes
+pub served-value : (s : State) → IsSteady s → AreBytes s.cache.bytes → (served_m s).goes ≡ true → (served_m s).value ≡ given s.image (action_in_m s) (view s)
+served-value s is bytes goes = value-by s is bytes (action_in_m s) (move s) (tells s.port s.cache (load_client s.image (action_in_m s) (pending s.stores)) (store_client s.image (pending s.stores))) goes

@@ -21,7 +21,7 @@ byte_under : (value lane : ℕ) → lane < 4 → lane_byte value lane < 256
 unfolding byte_of
 byte_under value lane h = rw (lane-byte value lane h) (mod_below (value / 2 ^ (8 * lane)) 256 (lit< tt))
 
-byte_below : (value lane : ℕ) → lane_byte value lane < 256
+pub byte_below : (value lane : ℕ) → lane_byte value lane < 256
 byte_below value zero = byte_under value 0 (lit< tt)
 byte_below value (suc zero) = byte_under value 1 (lit< tt)
 byte_below value (suc (suc zero)) = byte_under value 2 (lit< tt)

@@ -9,8 +9,7 @@ use Rattle.rv_table.specs.declared.action.Action.TheVariants.{Nothing, Writes, L
 use Rattle.rv_table.specs.declared.operation.StoreKind.{StoreKind}
 use Rattle.rv_table.proofs.Loads.{loaded-same, same_word}
 use Rattle.rv_isa.specs.Instruction.{State as Arch, Log, end_of, given, logged, memory_after}
-use Rattle.cyc_machine.specs.Cycle.{action_in_m, cycle, end_in, served_m}
-use Rattle.cyc_machine.specs.Facts.{IsMachine}
+use Rattle.cyc_machine.specs.Cycle.{action_in_m, cycle, end_in, fate, served_m}
 use Rattle.cyc_machine.specs.Pipeline.{fate_of}
 use Rattle.cyc_machine.specs.State.{State}
 use Rattle.flush_view.specs.Avoids.{Avoids, masked}
@@ -21,10 +20,11 @@ use Rattle.flush_view.specs.Views.{view}
 use Rattle.flush_view.proofs.Loads.{clash}
 use Rattle.flush_view.proofs.Memory.{memory-law}
 use Rattle.flush_view.proofs.Overlay.{one_word}
-use Rattle.flush_view.proofs.Path.{Same}
-use Rattle.flush_view.proofs.PipeLaw.{leaves, waits, fed_pipe}
+use Rattle.flush_view.proofs.PipeLaw.{added_to, fed_pipe, flush_more, leaves, waits}
 use Rattle.flush_view.proofs.Piped.{piped, piped-next}
 use Rattle.flush_view.proofs.Pipes.{Pipe, flush_pipe, next_pipe}
+use Rattle.wb_cache.proofs.Kept.{AreBytes}
+use Rattle.flush_view.proofs.Steady.{IsSteady}
 
 -- ---- an action that avoids X sees and makes the same outside X
 
@@ -82,17 +82,17 @@ unfolding flush flush_over
 flush-over s clocks log = refl
 
 -- M is served: what the cycle does to memory and gives is what M does and gives
-by_served : (p : Pipe) (goes : Bool) (value pc : ℕ) (memory after : ℕ → ℕ) (clocks : List ℕ) (log : Log) → (goes ≡ true → value ≡ given p.image p.m memory) → after ≡ memory_after p.image (if goes then p.m else Nothing) memory → end_of p.m ≡ None → Same p.image (flush_pipe p memory (fed_pipe (fate_of p.d p.npc p.m p.w goes) p clocks) log) (flush_pipe (next_pipe (fate_of p.d p.npc p.m p.w goes) goes value pc p) after clocks (logged log (if goes then p.m else Nothing)))
+by_served : (p : Pipe) (goes : Bool) (value pc : ℕ) (memory after : ℕ → ℕ) (clocks : List ℕ) (log : Log) → (goes ≡ true → value ≡ given p.image p.m memory) → after ≡ memory_after p.image (if goes then p.m else Nothing) memory → end_of p.m ≡ None → flush_pipe (next_pipe (fate_of p.d p.npc p.m p.w goes) goes value pc p) after clocks (logged log (if goes then p.m else Nothing)) ≡ flush_more (added_to (fate_of p.d p.npc p.m p.w goes) p) p memory (fed_pipe (fate_of p.d p.npc p.m p.w goes) p clocks) log
 by_served p true value pc memory after clocks log v e h =
     rw (v refl, e) (leaves (fate_of p.d p.npc p.m p.w true) p pc memory clocks log refl h)
 by_served p false value pc memory after clocks log v e h =
     rw e (waits (fate_of p.d p.npc p.m p.w false) p value pc memory clocks log refl h)
 
-pub masked-law : (s : State) → IsMachine s → (out : ℕ → Bool) (clocks : List ℕ) (log : Log) → IsCoherent out s → Avoids out (action_in_m s) → end_in s ≡ None → Same s.image (flush_over s (masked out (view s)) (fed s clocks) log) (flush_over (cycle s) (masked out (view (cycle s))) clocks (logged log (done_in s)))
+pub masked-law : (s : State) → IsSteady s → AreBytes s.cache.bytes → (out : ℕ → Bool) (clocks : List ℕ) (log : Log) → IsCoherent out s → Avoids out (action_in_m s) → end_in s ≡ None → flush_over (cycle s) (masked out (view (cycle s))) clocks (logged log (done_in s)) ≡ flush_more (added_to (fate s) (piped s)) (piped s) (masked out (view s)) (fed s clocks) log
 unfolding flush_over
-masked-law s is out clocks log coherent avoids h =
-    let law : MemoryLaw s (cycle s) = memory-law s is in
-    subst (λ q. Same s.image (flush_pipe (piped s) (masked out (view s)) (fed s clocks) log) (flush_pipe q (masked out (view (cycle s))) clocks (logged log (done_in s)))) (sym (piped-next s is))
+masked-law s is bytes out clocks log coherent avoids h =
+    let law : MemoryLaw s (cycle s) = memory-law s is bytes in
+    subst (λ q. flush_pipe q (masked out (view (cycle s))) clocks (logged log (done_in s)) ≡ flush_more (added_to (fate s) (piped s)) (piped s) (masked out (view s)) (fed s clocks) log) (sym (piped-next s is))
     (by_served (piped s) (served_m s).goes (served_m s).value (cycle s).pc (masked out (view s)) (masked out (view (cycle s))) clocks log
     (λ g. law.value g ∙ sym (given-masked s.image out (action_in_m s) (view s) avoids))
     (masked-same out (view (cycle s)) (memory_after s.image (done_in s) (view s)) (λ p o. law.seen out coherent p o) ∙ sym (memory_after-masked s.image out (done_in s) (view s) (done_avoids (served_m s).goes)))

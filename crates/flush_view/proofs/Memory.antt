@@ -13,7 +13,6 @@ use Rattle.store_buf.specs.Pending.{pending}
 use Rattle.wb_cache.specs.Changes.{ram_byte}
 use Rattle.wb_cache.specs.Contents.{Contents, slots}
 use Rattle.cyc_machine.specs.Cycle.{action_in_m, cycle, cycled, move, served_m}
-use Rattle.cyc_machine.specs.Facts.{IsMachine}
 use Rattle.cyc_machine.specs.Memory.{cache_after, kept_stores, load_client, memory_after, store_client, stores_after, word_read}
 use Rattle.cyc_machine.specs.State.{State}
 use Rattle.flush_view.specs.Coherence.{Coherent, IsCoherent}
@@ -25,6 +24,8 @@ use Rattle.flush_view.proofs.Moved.{moved, moved_ram, ram-moved, shape-moved, sl
 use Rattle.flush_view.proofs.Moves.{Tells, tells}
 use Rattle.flush_view.proofs.Given.{served-value}
 use Rattle.flush_view.proofs.Overlay.{one_word}
+use Rattle.wb_cache.proofs.Kept.{AreBytes}
+use Rattle.flush_view.proofs.Steady.{IsSteady}
 use Rattle.flush_view.proofs.Ways.{Slots}
 
 clash : true ≡ false → ⊥
@@ -43,7 +44,7 @@ dropped-outside image is kind x y p memory outside none = go (word_in_ram image 
 cached-same : (shape other : Shape) (ram main : ℕ → ℕ) (cache slot : Slots) (p : ℕ) → shape ≡ other → ram ≡ main → cache ≡ slot → cached shape ram cache p ≡ cached other main slot p
 cached-same shape other ram main cache slot p e f g = rw (e, f, g) refl
 
-module _ (s : State) (is : IsMachine s) where
+module _ (s : State) (is : IsSteady s) (bytes : AreBytes s.cache.bytes) where
   abbrev stores : List Entry
   stores = pending s.stores
 
@@ -57,17 +58,17 @@ module _ (s : State) (is : IsMachine s) where
   told = tells s.port s.cache (load_client s.image (action_in_m s) stores) (store_client s.image stores)
 
   next-slots : slots next_cache ≡ moved s.image s.cache (move s) (ram_byte s.image s.memory) (slots s.cache)
-  next-slots = slots-moved s.image s.cache s.memory _ _ (move s) is.image is.memory is.cache.sized told
+  next-slots = slots-moved s.image s.cache s.memory _ _ (move s) is.image is.memory is.cache told
 
   next-ram : ram_byte s.image next_memory ≡ moved_ram s.image s.cache (move s) (slots s.cache) (ram_byte s.image s.memory)
-  next-ram = ram-moved s.image s.cache s.memory _ _ (move s) is.image is.memory is.cache.sized told
+  next-ram = ram-moved s.image s.cache s.memory _ _ (move s) is.image is.memory is.cache told
 
   next-shape : next_cache.shape ≡ s.cache.shape
   next-shape = shape-moved s.image s.cache s.memory (move s)
 
   coherent-as : (out : ℕ → Bool) (shape : Shape) (ram : ℕ → ℕ) (cache : Slots) → shape ≡ s.cache.shape → ram ≡ moved_ram s.image s.cache (move s) (slots s.cache) (ram_byte s.image s.memory) → cache ≡ moved s.image s.cache (move s) (ram_byte s.image s.memory) (slots s.cache) → IsCoherent out s → Coherent shape out ram cache
   coherent-as out shape ram cache e f g coherent =
-      rw (e, f, g) (moved-coherent s.image s.cache (ram_byte s.image s.memory) _ _ is.cache.sized out (move s) told coherent)
+      rw (e, f, g) (moved-coherent s.image s.cache (ram_byte s.image s.memory) _ _ is.cache out (move s) told coherent)
 
   coherent-kept : (out : ℕ → Bool) → IsCoherent out s → IsCoherent out (cycle s)
   unfolding cycled
@@ -79,7 +80,7 @@ module _ (s : State) (is : IsMachine s) where
   view-inside out coherent p o inside =
       ap (overlaid (stores_after s.image (action_in_m s) (move s) stores) p) (cached-same next_cache.shape s.cache.shape (ram_byte s.image next_memory) (moved_ram s.image s.cache (move s) (slots s.cache) (ram_byte s.image s.memory)) (slots next_cache) (moved s.image s.cache (move s) (ram_byte s.image s.memory) (slots s.cache)) p next-shape next-ram next-slots)
       ∙ (appended-view s.image (action_in_m s) stores (word_read (move s) s.cache) (kept_stores s.image (move s) stores) p _ (view s)
-      (moved-view s.image s.cache (ram_byte s.image s.memory) _ stores is.image is.cache.sized out (move s) p told coherent o inside ∙ rw inside refl))
+      (moved-view s.image s.cache (ram_byte s.image s.memory) _ stores is.image is.cache out (move s) p told coherent o inside ∙ rw inside refl))
 
   -- no store changes the view outside RAM
   nothing-outside : (p : ℕ) → in_ram s.image p ≡ false → view s p ≡ 0
@@ -104,7 +105,7 @@ module _ (s : State) (is : IsMachine s) where
       go false h = rw h (stored-outside (done_in s) p h)
 
   value-given : (served_m s).goes ≡ true → (served_m s).value ≡ given s.image (action_in_m s) (view s)
-  value-given goes = served-value s is goes
+  value-given goes = served-value s is bytes goes
 
   pub memory-law : MemoryLaw s (cycle s)
   memory-law = record { coherent = coherent-kept; seen = view-kept; value = value-given }

@@ -1,23 +1,26 @@
 -- The flush law of the pipeline alone, by the fate of ID/EX and by whether EX/MEM leaves.
-use Rattle.std.proofs.Common.{◌≡◌, inl, ℕ, Bool, true, false, List, ◌∷◌, map, drop, refl, ap, sym, ◌∙◌}
+use Rattle.std.proofs.Common.{◌≡◌, ℕ, Bool, true, false, List, ◌∷◌, ◌++◌, length, map, drop, refl, ap, sym, ◌∙◌}
 use Rattle.std.specs.Prelude.{None, ◌==◌, ◌&&◌, is_none, slice_get, if◌then◌else◌}
 use Rattle.elf_load.specs.Image.{LoadedImage}
 use Rattle.rv_table.specs.Actions.{is_clocked, next_address, with_counter}
 use Rattle.rv_table.specs.Effects.{written_register}
 use Rattle.rv_table.specs.declared.op.Op.{Op}
+use Rattle.rv_table.specs.declared.action.Action.{Action}
 use Rattle.rv_table.specs.declared.action.Action.TheVariants.{Nothing}
 use Rattle.rv_isa.specs.Instruction.{State as Arch, Log, action_in, completed, end_of, first_clock, given, later_clocks, logged, memory_after, next_count, performed, put_reg}
 use Rattle.pipe_latch.specs.Forwarding.{operand, settled}
-use Rattle.pipe_latch.specs.Latches.{ResultLatch, no_result, op_of_latch}
+use Rattle.pipe_latch.specs.Latches.{DecodedLatch, ResultLatch, no_result, op_of_latch}
 use Rattle.pipe_latch.specs.declared.forward.Forwarded.{Forwarded}
 use Rattle.pipe_latch.specs.declared.forward.Forwarded.TheVariants.{Value, Wait}
 use Rattle.pipe_latch.specs.Execution.{next_of}
+use Rattle.inst_buf.specs.Entry.{Entry}
 use Rattle.cyc_machine.specs.declared.fate.Fate.{Fate}
 use Rattle.cyc_machine.specs.declared.fate.Fate.TheVariants.{Absent, Dropped, Stays, Goes}
-use Rattle.cyc_machine.specs.Pipeline.{counted, entries_after, fate_of, goes_with, issued_after, npc_after, operand_b, stalled}
+use Rattle.cyc_machine.specs.Pipeline.{counted, entries_after, fate_of, filled, goes_with, issued_after, npc_after, operand_b, stalled}
 use Rattle.flush_view.specs.Flush.{Item, clocks_now, completed_item, completed_path, item_of_entry, item_of_latch, path_of}
+use Rattle.flush_view.specs.FlushLaw.{remaining}
 use Rattle.flush_view.proofs.Operands.{clock-taken, clocks-left, held-stays, held-waits}
-use Rattle.flush_view.proofs.Path.{Same, same-from}
+use Rattle.flush_view.proofs.Path.{added}
 use Rattle.flush_view.proofs.Pipes.{Pipe, flush_pipe, latched_pipe, next_pipe, path-filled, path-stalled, path-taken, taken_by}
 
 -- ---- what a fate tells
@@ -50,7 +53,7 @@ goes-by true true true x y a b h = let g = goes_by x y a b h in (refl, refl, ref
 goes-by true true false x y a b h = absurd cc
 goes-by true false t x y a b h = absurd cc
 
-abbrev fate_pipe : Pipe → Bool → Fate
+abbrev pub fate_pipe : Pipe → Bool → Fate
 fate_pipe p goes = fate_of p.d p.npc p.m p.w goes
 
 pub fate-absent : (p : Pipe) (goes : Bool) → fate_of p.d p.npc p.m p.w goes ≡ Absent → p.d.valid ≡ false
@@ -82,14 +85,25 @@ base p memory pc count clocks log =
 abbrev pub fed_pipe : Fate → Pipe → List ℕ → List ℕ
 fed_pipe f p clocks = if clocks_now f p.d then p.cycle ∷ clocks else clocks
 
--- the flush before, opened
-flush-valid : (p : Pipe) (memory : ℕ → ℕ) (clocks : List ℕ) (log : Log) (v : Bool) → p.d.valid ≡ v → end_of p.m ≡ None → flush_pipe p memory clocks log ≡ completed_path p.image (if v then item_of_latch p.image p.m p.w memory p.d ∷ map item_of_entry p.waiting else map item_of_entry p.waiting) (base p memory p.npc p.issued clocks log)
-flush-valid p memory clocks log v e h =
-    ap (λ b. completed_path p.image (if b then item_of_latch p.image p.m p.w memory p.d ∷ map item_of_entry p.waiting else map item_of_entry p.waiting) (latched_pipe p memory clocks log)) e
-    ∙ ap (λ o. completed_path p.image (if v then item_of_latch p.image p.m p.w memory p.d ∷ map item_of_entry p.waiting else map item_of_entry p.waiting) (record (base p memory p.npc p.issued clocks log) { stop = o })) h
+-- the entry that is fetched in a cycle, and the flush before the cycle with more items behind the path
+abbrev pub added_to : Fate → Pipe → List Item
+added_to f p = added p.image p.pc (length (remaining f p.waiting))
 
-flush-base : (p : Pipe) (memory : ℕ → ℕ) (clocks : List ℕ) (log : Log) → end_of p.m ≡ None → flush_pipe p memory clocks log ≡ completed_path p.image (path_of p.image p.m p.w memory p.d p.waiting) (base p memory p.npc p.issued clocks log)
-flush-base p memory clocks log h = ap (λ o. completed_path p.image (path_of p.image p.m p.w memory p.d p.waiting) (record (base p memory p.npc p.issued clocks log) { stop = o })) h
+abbrev pub flush_more : List Item → Pipe → (ℕ → ℕ) → List ℕ → Log → Arch
+flush_more more p memory clocks log = completed_path p.image (path_of p.image p.m p.w memory p.d p.waiting ++ more) (latched_pipe p memory clocks log)
+
+-- the flush before, opened
+flush-valid : (more : List Item) (p : Pipe) (memory : ℕ → ℕ) (clocks : List ℕ) (log : Log) (v : Bool) → p.d.valid ≡ v → end_of p.m ≡ None → flush_more more p memory clocks log ≡ completed_path p.image ((if v then item_of_latch p.image p.m p.w memory p.d ∷ map item_of_entry p.waiting else map item_of_entry p.waiting) ++ more) (base p memory p.npc p.issued clocks log)
+flush-valid more p memory clocks log v e h =
+    ap (λ b. completed_path p.image ((if b then item_of_latch p.image p.m p.w memory p.d ∷ map item_of_entry p.waiting else map item_of_entry p.waiting) ++ more) (latched_pipe p memory clocks log)) e
+    ∙ ap (λ o. completed_path p.image ((if v then item_of_latch p.image p.m p.w memory p.d ∷ map item_of_entry p.waiting else map item_of_entry p.waiting) ++ more) (record (base p memory p.npc p.issued clocks log) { stop = o })) h
+
+flush-base : (more : List Item) (p : Pipe) (memory : ℕ → ℕ) (clocks : List ℕ) (log : Log) → end_of p.m ≡ None → flush_more more p memory clocks log ≡ completed_path p.image (path_of p.image p.m p.w memory p.d p.waiting ++ more) (base p memory p.npc p.issued clocks log)
+flush-base more p memory clocks log h = ap (λ o. completed_path p.image (path_of p.image p.m p.w memory p.d p.waiting ++ more) (record (base p memory p.npc p.issued clocks log) { stop = o })) h
+
+-- the next flush, where an entry is fetched
+flush-filled : (p : Pipe) (m : Action) (w : ResultLatch) (memory : ℕ → ℕ) (d : DecodedLatch) (rest : List Entry) (at : Arch) → completed_path p.image (path_of p.image m w memory d (filled p.image p.pc rest)) at ≡ completed_path p.image (path_of p.image m w memory d rest ++ added p.image p.pc (length rest)) at
+flush-filled p m w memory d rest at = ap (λ (items : List Item). completed_path p.image items at) (path-filled p.image m w memory d p.pc rest)
 
 -- an item that isn't reached ends the path
 unreached : (image : LoadedImage) (item : Item) (items : List Item) (at : Arch) → (item.pc == at.pc) ≡ false → completed_path image (item ∷ items) at ≡ at
@@ -109,38 +123,37 @@ reached image item items at h e = rw (h, e) refl
 abbrev written : Pipe → (ℕ → ℕ) → ResultLatch
 written p memory = record { rd = written_register p.m; value = given p.image p.m memory }
 
+-- the next flush is the flush before with the entry that is fetched behind the path
 abbrev Claim : Fate → Pipe → Bool → ℕ → ℕ → (ℕ → ℕ) → (ℕ → ℕ) → List ℕ → Log → Log → Type 0
 Claim f p goes value pc memory after clocks log next =
-    Same p.image (flush_pipe p memory (fed_pipe f p clocks) log) (flush_pipe (next_pipe f goes value pc p) after clocks next)
+    flush_pipe (next_pipe f goes value pc p) after clocks next ≡ flush_more (added_to f p) p memory (fed_pipe f p clocks) log
 
 leaves-absent : (p : Pipe) (pc : ℕ) (memory : ℕ → ℕ) (clocks : List ℕ) (log : Log) → p.d.valid ≡ false → end_of p.m ≡ None → Claim Absent p true (given p.image p.m memory) pc memory (memory_after p.image p.m memory) clocks log (logged log p.m)
 unfolding entries_after npc_after issued_after
 leaves-absent p pc memory clocks log e h =
-    same-from p.image _ _ _
-    (path-taken p.image Nothing (written p memory) p.w (memory_after p.image p.m memory) p.registers p.waiting (base p memory p.npc p.issued clocks log) refl
-    ∙ sym (flush-valid p memory clocks log false e h))
-    (path-filled p.image Nothing (written p memory) (memory_after p.image p.m memory) (taken_by (slice_get p.waiting 0) p.w p.registers) p.pc (drop 1 p.waiting) (base p memory p.npc p.issued clocks log))
+    flush-filled p Nothing (written p memory) (memory_after p.image p.m memory) (taken_by (slice_get p.waiting 0) p.w p.registers) (drop 1 p.waiting) (base p memory p.npc p.issued clocks log)
+    ∙ path-taken p.image Nothing (written p memory) p.w (memory_after p.image p.m memory) p.registers p.waiting (added_to Absent p) (base p memory p.npc p.issued clocks log) refl
+    ∙ sym (flush-valid (added_to Absent p) p memory clocks log false e h)
 
 leaves-dropped : (p : Pipe) (pc : ℕ) (memory : ℕ → ℕ) (clocks : List ℕ) (log : Log) → p.d.valid ≡ true → (p.d.pc == p.npc) ≡ false → end_of p.m ≡ None → Claim Dropped p true (given p.image p.m memory) pc memory (memory_after p.image p.m memory) clocks log (logged log p.m)
 unfolding entries_after npc_after issued_after completed_path
 leaves-dropped p pc memory clocks log v e h =
-    inl (sym (flush-valid p memory clocks log true v h
-    ∙ unreached p.image (item_of_latch p.image p.m p.w memory p.d) (map item_of_entry p.waiting) (base p memory p.npc p.issued clocks log) e))
+    sym (flush-valid (added_to Dropped p) p memory clocks log true v h
+    ∙ unreached p.image (item_of_latch p.image p.m p.w memory p.d) (map item_of_entry p.waiting ++ added_to Dropped p) (base p memory p.npc p.issued clocks log) e)
 
 leaves-stays : (p : Pipe) (pc : ℕ) (memory : ℕ → ℕ) (clocks : List ℕ) (log : Log) → end_of p.m ≡ None → Claim Stays p true (given p.image p.m memory) pc memory (memory_after p.image p.m memory) clocks log (logged log p.m)
 unfolding entries_after npc_after issued_after
 leaves-stays p pc memory clocks log h =
-    same-from p.image _ _ _
-    (path-stalled p.image p.m Nothing p.w (written p memory) memory (memory_after p.image p.m memory) p.d p.waiting (base p memory p.npc p.issued clocks log) (λ rs held. held-stays p.image p.m p.w memory (memory_after p.image p.m memory) rs held)
-    ∙ sym (flush-base p memory clocks log h))
-    (path-filled p.image Nothing (written p memory) (memory_after p.image p.m memory) (stalled p.d p.w) p.pc p.waiting (base p memory p.npc p.issued clocks log))
+    flush-filled p Nothing (written p memory) (memory_after p.image p.m memory) (stalled p.d p.w) p.waiting (base p memory p.npc p.issued clocks log)
+    ∙ path-stalled p.image p.m Nothing p.w (written p memory) memory (memory_after p.image p.m memory) p.d p.waiting (added_to Stays p) (base p memory p.npc p.issued clocks log) (λ rs held. held-stays p.image p.m p.w memory (memory_after p.image p.m memory) rs held)
+    ∙ sym (flush-base (added_to Stays p) p memory clocks log h)
 
 -- D, completed
 completed-as : (image : LoadedImage) (op : Op) (pc x y a c : ℕ) (clocks : List ℕ) (at : Arch) → x ≡ a → with_counter op (first_clock at.clocks) at.count y ≡ c → (if is_clocked op then later_clocks at.clocks else at.clocks) ≡ clocks → completed image op pc x y at ≡ record (performed image (action_in image op pc a c) at) { pc = next_address op pc a c; count = next_count at.count; clocks = clocks }
 unfolding completed
 completed-as image op pc x y a c clocks at e f g = rw (e, f, g) refl
 
-goes-completed : (p : Pipe) (memory : ℕ → ℕ) (clocks : List ℕ) (log : Log) (a b : ℕ) → operand p.m p.w p.d.rs1 p.d.a ≡ Value a → operand_b p.d p.m p.w ≡ Value b → completed_item p.image (item_of_latch p.image p.m p.w memory p.d) (base p memory p.npc p.issued (fed_pipe (Goes a b) p clocks) log) ≡ record (performed p.image (action_in p.image (op_of_latch p.d) p.d.pc a (counted p.d p.cycle p.issued b)) (base p memory p.npc p.issued clocks log)) { pc = next_of p.d a (counted p.d p.cycle p.issued b); count = next_count p.issued }
+pub goes-completed : (p : Pipe) (memory : ℕ → ℕ) (clocks : List ℕ) (log : Log) (a b : ℕ) → operand p.m p.w p.d.rs1 p.d.a ≡ Value a → operand_b p.d p.m p.w ≡ Value b → completed_item p.image (item_of_latch p.image p.m p.w memory p.d) (base p memory p.npc p.issued (fed_pipe (Goes a b) p clocks) log) ≡ record (performed p.image (action_in p.image (op_of_latch p.d) p.d.pc a (counted p.d p.cycle p.issued b)) (base p memory p.npc p.issued clocks log)) { pc = next_of p.d a (counted p.d p.cycle p.issued b); count = next_count p.issued }
 unfolding operand_b counted next_of
 goes-completed p memory clocks log a b e f =
     completed-as p.image (op_of_latch p.d) p.d.pc _ _ a (with_counter (op_of_latch p.d) p.cycle p.issued b) clocks (base p memory p.npc p.issued (fed_pipe (Goes a b) p clocks) log)
@@ -152,12 +165,11 @@ leaves-goes : (p : Pipe) (pc : ℕ) (memory : ℕ → ℕ) (clocks : List ℕ) (
 unfolding entries_after npc_after issued_after
 leaves-goes p pc memory clocks log a b v r e f h =
     let next : Pipe = next_pipe (Goes a b) true (given p.image p.m memory) pc p in
-    same-from p.image _ _ _
-    (path-taken p.image next.m (written p memory) p.w (memory_after p.image p.m memory) p.registers p.waiting (latched_pipe next (memory_after p.image p.m memory) clocks (logged log p.m)) refl
-    ∙ sym (flush-valid p memory (fed_pipe (Goes a b) p clocks) log true v h
-    ∙ reached p.image (item_of_latch p.image p.m p.w memory p.d) (map item_of_entry p.waiting) (base p memory p.npc p.issued (fed_pipe (Goes a b) p clocks) log) refl r
-    ∙ ap (completed_path p.image (map item_of_entry p.waiting)) (goes-completed p memory clocks log a b e f)))
-    (path-filled p.image next.m (written p memory) (memory_after p.image p.m memory) (taken_by (slice_get p.waiting 0) p.w p.registers) p.pc (drop 1 p.waiting) (latched_pipe next (memory_after p.image p.m memory) clocks (logged log p.m)))
+    flush-filled p next.m (written p memory) (memory_after p.image p.m memory) (taken_by (slice_get p.waiting 0) p.w p.registers) (drop 1 p.waiting) (latched_pipe next (memory_after p.image p.m memory) clocks (logged log p.m))
+    ∙ path-taken p.image next.m (written p memory) p.w (memory_after p.image p.m memory) p.registers p.waiting (added_to (Goes a b) p) (latched_pipe next (memory_after p.image p.m memory) clocks (logged log p.m)) refl
+    ∙ sym (flush-valid (added_to (Goes a b) p) p memory (fed_pipe (Goes a b) p clocks) log true v h
+    ∙ reached p.image (item_of_latch p.image p.m p.w memory p.d) (map item_of_entry p.waiting ++ added_to (Goes a b) p) (base p memory p.npc p.issued (fed_pipe (Goes a b) p clocks) log) refl r
+    ∙ ap (completed_path p.image (map item_of_entry p.waiting ++ added_to (Goes a b) p)) (goes-completed p memory clocks log a b e f))
 
 pub leaves : (f : Fate) (p : Pipe) (pc : ℕ) (memory : ℕ → ℕ) (clocks : List ℕ) (log : Log) → fate_of p.d p.npc p.m p.w true ≡ f → end_of p.m ≡ None → Claim f p true (given p.image p.m memory) pc memory (memory_after p.image p.m memory) clocks log (logged log p.m)
 leaves Absent p pc memory clocks log e h = leaves-absent p pc memory clocks log (fate-absent p true e) h
@@ -171,28 +183,26 @@ waits-absent : (p : Pipe) (value pc : ℕ) (memory : ℕ → ℕ) (clocks : List
 unfolding entries_after npc_after issued_after
 waits-absent p value pc memory clocks log e h =
     let next : Pipe = next_pipe Absent false value pc p in
-    same-from p.image _ _ _
-    (path-taken p.image p.m no_result p.w memory p.registers p.waiting (latched_pipe next memory clocks log) refl
-    ∙ ap (λ o. completed_path p.image (map item_of_entry p.waiting) (record (base p memory p.npc p.issued clocks log) { stop = o })) h
-    ∙ sym (flush-valid p memory clocks log false e h))
-    (path-filled p.image p.m no_result memory (taken_by (slice_get p.waiting 0) p.w p.registers) p.pc (drop 1 p.waiting) (latched_pipe next memory clocks log))
+    flush-filled p p.m no_result memory (taken_by (slice_get p.waiting 0) p.w p.registers) (drop 1 p.waiting) (latched_pipe next memory clocks log)
+    ∙ path-taken p.image p.m no_result p.w memory p.registers p.waiting (added_to Absent p) (latched_pipe next memory clocks log) refl
+    ∙ ap (λ o. completed_path p.image (map item_of_entry p.waiting ++ added_to Absent p) (record (base p memory p.npc p.issued clocks log) { stop = o })) h
+    ∙ sym (flush-valid (added_to Absent p) p memory clocks log false e h)
 
 waits-dropped : (p : Pipe) (value pc : ℕ) (memory : ℕ → ℕ) (clocks : List ℕ) (log : Log) → p.d.valid ≡ true → (p.d.pc == p.npc) ≡ false → end_of p.m ≡ None → Claim Dropped p false value pc memory memory clocks log log
 unfolding entries_after npc_after issued_after completed_path
 waits-dropped p value pc memory clocks log v e h =
-    inl (ap (λ o. record (base p memory p.npc p.issued clocks log) { stop = o }) h
-    ∙ sym (flush-valid p memory clocks log true v h
-    ∙ unreached p.image (item_of_latch p.image p.m p.w memory p.d) (map item_of_entry p.waiting) (base p memory p.npc p.issued clocks log) e))
+    ap (λ o. record (base p memory p.npc p.issued clocks log) { stop = o }) h
+    ∙ sym (flush-valid (added_to Dropped p) p memory clocks log true v h
+    ∙ unreached p.image (item_of_latch p.image p.m p.w memory p.d) (map item_of_entry p.waiting ++ added_to Dropped p) (base p memory p.npc p.issued clocks log) e)
 
 waits-stays : (p : Pipe) (value pc : ℕ) (memory : ℕ → ℕ) (clocks : List ℕ) (log : Log) → Claim Stays p false value pc memory memory clocks log log
 unfolding entries_after npc_after issued_after
 waits-stays p value pc memory clocks log =
     let next : Pipe = next_pipe Stays false value pc p in
-    same-from p.image _ _ _
-    (path-stalled p.image p.m p.m p.w no_result memory memory p.d p.waiting (latched_pipe p memory clocks log) (λ rs held. held-waits p.image p.m p.w memory rs held))
-    (path-filled p.image p.m no_result memory (stalled p.d p.w) p.pc p.waiting (latched_pipe p memory clocks log))
+    flush-filled p p.m no_result memory (stalled p.d p.w) p.waiting (latched_pipe next memory clocks log)
+    ∙ path-stalled p.image p.m p.m p.w no_result memory memory p.d p.waiting (added_to Stays p) (latched_pipe p memory clocks log) (λ rs held. held-waits p.image p.m p.w memory rs held)
 
-not_both : (b : Bool) → (b && false) ≡ true → ⊥
+pub not_both : (b : Bool) → (b && false) ≡ true → ⊥
 not_both true h = absurd cc
 not_both false h = absurd cc
 

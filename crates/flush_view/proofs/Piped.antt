@@ -20,13 +20,12 @@ use Rattle.cyc_machine.specs.declared.fate.Fate.{Fate}
 use Rattle.cyc_machine.specs.declared.fate.Fate.TheVariants.{Absent, Dropped, Stays, Goes}
 use Rattle.cyc_machine.specs.declared.memory_stage.Served.{Served}
 use Rattle.cyc_machine.specs.Cycle.{action_in_m, cycle, cycled, fate, next_fetch, served_m}
-use Rattle.cyc_machine.specs.Facts.{IsMachine}
 use Rattle.cyc_machine.specs.Memory.{result_after}
 use Rattle.rv_table.specs.Effects.{written_register}
-use Rattle.pipe_latch.specs.ResultBits as memwb
 use Rattle.cyc_machine.specs.Pipeline.{issued_after, npc_after, decoded, decoded_after, entries_after, entry_of_word, executed_after, fetched, filled, register, taken, written_registers}
 use Rattle.cyc_machine.specs.State.{State}
 use Rattle.flush_view.proofs.Pipes.{Pipe, action_next, decoded_next, next_pipe, taken_by}
+use Rattle.flush_view.proofs.Steady.{IsSteady}
 
 abbrev pub piped : State → Pipe
 piped s =
@@ -92,7 +91,7 @@ after_valid image Dropped pc es valid = All-nil (λ e. e.valid ≡ true)
 after_valid image Stays pc es valid = filled_valid image pc es valid
 after_valid image (Goes a b) pc es valid = filled_valid image pc (drop 1 es) (All-drop (λ e. e.valid ≡ true) 1 es valid)
 
-waiting-after : (image : LoadedImage) (f : Fate) (pc : ℕ) (slots : List Entry) → entries (packed (entries_after image f pc (entries slots))) ≡ entries_after image f pc (entries slots)
+pub waiting-after : (image : LoadedImage) (f : Fate) (pc : ℕ) (slots : List Entry) → entries (packed (entries_after image f pc (entries slots))) ≡ entries_after image f pc (entries slots)
 waiting-after image f pc slots = entries-packed (entries_after image f pc (entries slots)) (after_valid image f pc (entries slots) (entries_valid slots))
 
 -- ---- the register file
@@ -124,10 +123,7 @@ result-after : (m : Action) (s : Served) → result_after m s ≡ (if s.goes the
 unfolding result_after
 result-after m s = refl
 
-small : (w : ResultLatch) → memwb.IsFit w → w.rd < 32
-small w h = h.0
-
-pub piped-next : (s : State) → IsMachine s → piped (cycle s) ≡ next_pipe (fate s) (served_m s).goes (served_m s).value (cycle s).pc (piped s)
+pub piped-next : (s : State) → IsSteady s → piped (cycle s) ≡ next_pipe (fate s) (served_m s).goes (served_m s).value (cycle s).pc (piped s)
 unfolding cycled
 piped-next s is = λ i. record {
   image = s.image;
@@ -137,7 +133,7 @@ piped-next s is = λ i. record {
   d = decoded-after (fate s) s.d (entries s.buffer) s.w s.registers i;
   m = action-after (fate s) s (served_m s).goes i;
   w = result-after (action_in_m s) (served_m s) i;
-  registers = registers-after s.w s.registers is.registers.0 (small s.w is.w) i;
+  registers = registers-after s.w s.registers is.registers is.w_rd i;
   cycle = s.cycle + 1;
   issued = issued_after (fate s) s.issued;
 }

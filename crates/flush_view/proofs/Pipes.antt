@@ -1,6 +1,6 @@
 -- The pipeline alone: its registers as a function, EX/MEM as an action and the instruction buffer as a list. Memory is any
 -- function, of which a cycle sees whether EX/MEM leaves and what it gives.
-use Rattle.std.proofs.Common.{◌≡◌, inl, ℕ, ◌+◌, Bool, true, false, List, [], ◌∷◌, ◌++◌, length, map, drop, refl, ap, sym, ◌∙◌}
+use Rattle.std.proofs.Common.{◌≡◌, ℕ, ◌+◌, Bool, true, false, List, [], ◌∷◌, ◌++◌, length, map, drop, refl, ap, sym, ◌∙◌, append-nil}
 use Rattle.std.specs.Prelude.{Option, Some, None, ◌==◌, ◌&&◌, is_none, nat_lt, slice_get, if◌then◌else◌}
 use Rattle.elf_load.specs.Image.{LoadedImage}
 use Rattle.rv_table.specs.Effects.{written_register}
@@ -16,7 +16,7 @@ use Rattle.cyc_machine.specs.declared.fate.Fate.TheVariants.{Absent, Dropped, St
 use Rattle.cyc_machine.specs.Pipeline.{counted, delay_of, entries_after, fetched, filled, issued_after, npc_after, op_of_entry, stalled}
 use Rattle.flush_view.specs.Flush.{Item, completed_item, completed_path, item_of_entry, item_of_latch, operand_held, path_of}
 use Rattle.flush_view.proofs.Operands.{held-taken}
-use Rattle.flush_view.proofs.Path.{Same, entries-fetched, same-to}
+use Rattle.flush_view.proofs.Path.{added}
 
 pub record Pipe : Type 0 where
   pub image : LoadedImage
@@ -94,24 +94,21 @@ next_pipe f goes value pc p =
 
 -- ---- the path
 
-pub path-filled : (image : LoadedImage) (m : Action) (w : ResultLatch) (memory : ℕ → ℕ) (d : DecodedLatch) (pc : ℕ) (rest : List Entry) (at : Arch) → Same image (completed_path image (path_of image m w memory d rest) at) (completed_path image (path_of image m w memory d (filled image pc rest)) at)
-path-filled image m w memory d pc rest at = go (nat_lt (length rest) 4)
+map-push : (es : List Entry) (e : Entry) → map item_of_entry (es ++ e ∷ []) ≡ map item_of_entry es ++ item_of_entry e ∷ []
+map-push [] e = refl
+map-push (x ∷ es) e = ap (λ (is : List Item). item_of_entry x ∷ is) (map-push es e)
+
+-- the path once an entry is fetched
+pub path-filled : (image : LoadedImage) (m : Action) (w : ResultLatch) (memory : ℕ → ℕ) (d : DecodedLatch) (pc : ℕ) (rest : List Entry) → path_of image m w memory d (filled image pc rest) ≡ path_of image m w memory d rest ++ added image pc (length rest)
+path-filled image m w memory d pc rest = in_front d.valid (entries-filled (nat_lt (length rest) 4))
   where
-    map-push : (es : List Entry) (e : Entry) → map item_of_entry (es ++ e ∷ []) ≡ map item_of_entry es ++ item_of_entry e ∷ []
-    map-push [] e = refl
-    map-push (x ∷ es) e = ap (λ (is : List Item). item_of_entry x ∷ is) (map-push es e)
+    entries-filled : (b : Bool) → map item_of_entry (if b then rest ++ fetched image pc ∷ [] else rest) ≡ map item_of_entry rest ++ (if b then item_of_entry (fetched image pc) ∷ [] else [])
+    entries-filled true = map-push rest (fetched image pc)
+    entries-filled false = sym (append-nil (map item_of_entry rest))
 
-    inner : (v : Bool) (items : List Item) → items ≡ map item_of_entry rest ++ item_of_entry (fetched image pc) ∷ [] → Same image (completed_path image (if v then item_of_latch image m w memory d ∷ map item_of_entry rest else map item_of_entry rest) at) (completed_path image (if v then item_of_latch image m w memory d ∷ items else items) at)
-    inner true items e =
-        same-to image _ _ _ (ap (λ (is : List Item). completed_path image (item_of_latch image m w memory d ∷ is) at) (sym e))
-        (entries-fetched image pc (item_of_latch image m w memory d ∷ map item_of_entry rest) at)
-    inner false items e =
-        same-to image _ _ _ (ap (λ (is : List Item). completed_path image is at) (sym e))
-        (entries-fetched image pc (map item_of_entry rest) at)
-
-    go : (b : Bool) → Same image (completed_path image (path_of image m w memory d rest) at) (completed_path image (path_of image m w memory d (if b then rest ++ fetched image pc ∷ [] else rest)) at)
-    go true = inner d.valid (map item_of_entry (rest ++ fetched image pc ∷ [])) (map-push rest (fetched image pc))
-    go false = inl refl
+    in_front : (v : Bool) → map item_of_entry (filled image pc rest) ≡ map item_of_entry rest ++ added image pc (length rest) → (if v then item_of_latch image m w memory d ∷ map item_of_entry (filled image pc rest) else map item_of_entry (filled image pc rest)) ≡ (if v then item_of_latch image m w memory d ∷ map item_of_entry rest else map item_of_entry rest) ++ added image pc (length rest)
+    in_front true e = ap (λ (is : List Item). item_of_latch image m w memory d ∷ is) e
+    in_front false e = e
 
 -- two items with the same address and the same completion, in front of one path
 below_by : (image : LoadedImage) (pc place : ℕ) (x y : Arch) (items : List Item) (at : Arch) → pc ≡ place → x ≡ y → (if is_none at.stop && pc == at.pc then completed_path image items x else at) ≡ (if is_none at.stop && place == at.pc then completed_path image items y else at)
@@ -121,25 +118,25 @@ below : (image : LoadedImage) (i j : Item) (items : List Item) (at : Arch) → i
 unfolding completed_path
 below image i j items at e f = below_by image i.pc j.pc (completed_item image i at) (completed_item image j at) items at e f
 
-completed_with : (image : LoadedImage) (op : Op) (pc a b x y : ℕ) (at : Arch) → a ≡ x → b ≡ y → completed image op pc a b at ≡ completed image op pc x y at
+pub completed_with : (image : LoadedImage) (op : Op) (pc a b x y : ℕ) (at : Arch) → a ≡ x → b ≡ y → completed image op pc a b at ≡ completed image op pc x y at
 completed_with image op pc a b x y at e f = rw (e, f) refl
 
 -- ID takes the first entry
-pub path-taken : (image : LoadedImage) (x : Action) (w old : ResultLatch) (memory : ℕ → ℕ) (registers : ℕ → ℕ) (es : List Entry) (at : Arch) → at.registers ≡ put_reg (written_register x) (given image x memory) (put_reg w.rd w.value (put_reg old.rd old.value registers)) → completed_path image (path_of image x w memory (taken_by (slice_get es 0) old registers) (drop 1 es)) at ≡ completed_path image (map item_of_entry es) at
-path-taken image x w old memory registers [] at h = refl
-path-taken image x w old memory registers (e ∷ es) at h =
-    below image (item_of_latch image x w memory (decoded_by e old registers)) (item_of_entry e) (map item_of_entry es) at refl
+pub path-taken : (image : LoadedImage) (x : Action) (w old : ResultLatch) (memory : ℕ → ℕ) (registers : ℕ → ℕ) (es : List Entry) (more : List Item) (at : Arch) → at.registers ≡ put_reg (written_register x) (given image x memory) (put_reg w.rd w.value (put_reg old.rd old.value registers)) → completed_path image (path_of image x w memory (taken_by (slice_get es 0) old registers) (drop 1 es) ++ more) at ≡ completed_path image (map item_of_entry es ++ more) at
+path-taken image x w old memory registers [] more at h = refl
+path-taken image x w old memory registers (e ∷ es) more at h =
+    below image (item_of_latch image x w memory (decoded_by e old registers)) (item_of_entry e) (map item_of_entry es ++ more) at refl
     (completed_with image (op_of_entry e) e.pc _ _ _ _ at (reads (op_of_entry e).rs1) (reads (op_of_entry e).rs2))
   where
     reads : (rs : ℕ) → operand_held image x w memory rs (if rs == 0 then 0 else late old rs (registers rs)) ≡ reg at.registers rs
     reads rs = held-taken image x w old memory registers rs ∙ ap (λ (f : ℕ → ℕ). reg f rs) (sym h)
 
 -- D that stays
-pub path-stalled : (image : LoadedImage) (m x : Action) (w next : ResultLatch) (memory after : ℕ → ℕ) (d : DecodedLatch) (rest : List Entry) (at : Arch) → ((rs held : ℕ) → operand_held image x next after rs (late w rs held) ≡ operand_held image m w memory rs held) → completed_path image (path_of image x next after (stalled d w) rest) at ≡ completed_path image (path_of image m w memory d rest) at
-path-stalled image m x w next memory after d rest at same = go d.valid
+pub path-stalled : (image : LoadedImage) (m x : Action) (w next : ResultLatch) (memory after : ℕ → ℕ) (d : DecodedLatch) (rest : List Entry) (more : List Item) (at : Arch) → ((rs held : ℕ) → operand_held image x next after rs (late w rs held) ≡ operand_held image m w memory rs held) → completed_path image (path_of image x next after (stalled d w) rest ++ more) at ≡ completed_path image (path_of image m w memory d rest ++ more) at
+path-stalled image m x w next memory after d rest more at same = go d.valid
   where
-    go : (v : Bool) → completed_path image (if v then item_of_latch image x next after (stalled d w) ∷ map item_of_entry rest else map item_of_entry rest) at ≡ completed_path image (if v then item_of_latch image m w memory d ∷ map item_of_entry rest else map item_of_entry rest) at
+    go : (v : Bool) → completed_path image ((if v then item_of_latch image x next after (stalled d w) ∷ map item_of_entry rest else map item_of_entry rest) ++ more) at ≡ completed_path image ((if v then item_of_latch image m w memory d ∷ map item_of_entry rest else map item_of_entry rest) ++ more) at
     go true =
-        below image (item_of_latch image x next after (stalled d w)) (item_of_latch image m w memory d) (map item_of_entry rest) at refl
+        below image (item_of_latch image x next after (stalled d w)) (item_of_latch image m w memory d) (map item_of_entry rest ++ more) at refl
         (completed_with image (op_of_latch d) d.pc _ _ _ _ at (same d.rs1 d.a) (same d.rs2 d.b))
     go false = refl

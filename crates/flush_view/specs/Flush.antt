@@ -1,6 +1,6 @@
 -- The flush: the state of the instruction set's run that a machine state stands for. It completes what MEM/WB and EX/MEM hold
 -- and then what stands on the path, in order. After Burch and Dill, CAV 1994. No code computes it.
-use Rattle.std.specs.Prelude.{ℕ, ◌==◌, ◌&&◌, Bool, false, is_none, List, [], ◌∷◌, map, None, if◌then◌else◌}
+use Rattle.std.specs.Prelude.{ℕ, ◌+◌, ◌==◌, ◌&&◌, Bool, false, is_none, List, [], ◌∷◌, map, None, if◌then◌else◌}
 use Rattle.elf_load.specs.Image.{LoadedImage}
 use Rattle.rv_table.specs.Actions.{is_clocked}
 use Rattle.rv_table.specs.declared.op.Op.{Op}
@@ -36,6 +36,12 @@ unfoldable pub completed_path : LoadedImage → List Item → Arch → Arch
 completed_path image [] at = at
 completed_path image (item ∷ items) at =
     if is_reached item at then completed_path image items (completed_item image item at) else at
+
+-- how many of the items are completed
+unfoldable pub completed_count : LoadedImage → List Item → Arch → ℕ
+completed_count image [] at = 0
+completed_count image (item ∷ items) at =
+    if is_reached item at then completed_count image items (completed_item image item at) + 1 else 0
 
 -- an operand of ID/EX, with what completing EX/MEM writes where it must be waited for
 abbrev pub operand_held : LoadedImage → Action → ResultLatch → (ℕ → ℕ) → ℕ → ℕ → ℕ
@@ -81,6 +87,10 @@ latched s clocks log =
 -- The flush with these clock values for the reads of the cycle counter to come, after what the log says.
 unfoldable pub flush : State → List ℕ → Log → Arch
 flush s clocks log = completed_path s.image (path s) (latched s clocks log)
+
+-- how many entries of the path the flush completes
+abbrev pub entries_completed : State → List ℕ → Log → ℕ
+entries_completed s clocks log = completed_count s.image (path s) (latched s clocks log)
 
 -- whether this cycle issues a read of the cycle counter
 abbrev pub clocks_now : Fate → DecodedLatch → Bool

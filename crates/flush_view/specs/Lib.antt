@@ -2,5 +2,10 @@ pub mod Avoids
 pub mod Coherence
 pub mod Flush
 pub mod FlushLaw
+pub mod Ignored
 pub mod MemoryLaw
+pub mod Positions
+pub mod Progress
+pub mod RunFacts
+pub mod RunLaw
 pub mod Views
