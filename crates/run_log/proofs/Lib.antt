@@ -1,2 +1,2 @@
-pub mod Issued
 pub mod Keeping
+pub mod Programs

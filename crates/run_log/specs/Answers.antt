@@ -1,20 +1,32 @@
 -- What recording a run answers.
-use Rattle.std.specs.Prelude.{◌≡◌, ◌≤◌, ℕ, Result, Ok, Err, ⊤}
+use Rattle.std.specs.Prelude.{◌≡◌, ◌≤◌, ◌*◌, ℕ, List, ◌++◌, None, Result, Ok, Err, ⊤}
 use Rattle.elf_load.specs.Image.{LoadedImage}
 use Rattle.bit_field.specs.declared.shapes.Shape.{Shape}
-use Rattle.run_log.specs.Run.{IsRecord, IsRunning, RecordedRun}
+use Rattle.cyc_machine.specs.Run.{IsRunning, clocks_below}
+use Rattle.flush_view.specs.Positions.{trace_at}
+use Rattle.flush_view.specs.RunLaw.{EndsAfter}
+use Rattle.run_record.specs.Run.{IsRecord, RecordedRun}
 use Rattle.run_log.specs.declared.recording.RecordError.{RecordError}
 use Rattle.run_log.specs.declared.recording.RecordError.TheVariants.{NoEnd, OutOfMemory}
 
--- a record that is the image's run
+-- A record that is the image's run, on the machine and by the instruction set.
 pub record IsRunOf (image : LoadedImage) (shape : Shape) (budget : ℕ) (r : RecordedRun) : Type 0 where
   pub image_is : r.image ≡ image
   pub shape_is : r.shape ≡ shape
   pub within : r.cycles ≤ budget
   pub is_record : IsRecord r
+  -- With the recorded clock values the instruction set's run has as many instructions, and the same output and end.
+  pub program : EndsAfter r.image r.clocks r.instructions r.end r.output
+  pub few : r.instructions ≤ r.cycles
+
+-- No end came in the cycles below the budget. Then the instruction set's run hasn't ended either after one instruction for each 256 of
+-- them, whatever clock values may follow.
+pub record IsEndless (image : LoadedImage) (shape : Shape) (budget : ℕ) : Type 0 where
+  pub running : IsRunning image shape budget
+  pub program : (n : ℕ) (later : List ℕ) → 256 * n ≤ budget → (trace_at image (clocks_below image shape budget ++ later) n).stop ≡ None
 
 -- the record of the run; no end exactly where none came in the cycles below the budget
 abbrev pub IsRecorded : LoadedImage → Shape → ℕ → Result RecordedRun RecordError → Type 0
 IsRecorded image shape budget (Ok r) = IsRunOf image shape budget r
-IsRecorded image shape budget (Err NoEnd) = IsRunning image shape budget
+IsRecorded image shape budget (Err NoEnd) = IsEndless image shape budget
 IsRecorded image shape budget (Err OutOfMemory) = ⊤

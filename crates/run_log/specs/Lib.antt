@@ -1,3 +1,3 @@
 pub mod Answers
-pub mod Journals
-pub mod Run
+pub mod Cycles
+pub use Rattle.run_record.specs.Run

@@ -1,14 +1,12 @@
 // The recorded run: the machine runs an image from reset to its end, and what it showed on the way is kept.
 //
-// `recording` makes the run, `journal` is what is written down cycle by cycle, `recorded` is the record.
+// `recording` makes the run; the record itself is `run_record`'s.
 #![tactic(auto)]
 
-mod journal;
-mod recorded;
 mod recording;
 
-pub use recorded::Recorded;
 pub use recording::{RecordError, record, record_shaped};
+pub use run_record::Recorded;
 
 #[cfg(test)]
 mod tests;

@@ -1,20 +1,21 @@
 // Recording a run.
-ghost use Rattle.std.specs.Prelude.{◌≡◌, ◌+◌, ◌-◌, ◌*◌, ◌<◌, ◌≤◌, ◌^◌, length, IfOk, OnErr};
+ghost use Rattle.std.specs.Prelude.{◌≡◌, ◌+◌, ◌-◌, ◌*◌, ◌<◌, ◌≤◌, ◌^◌, false, length, IfOk, OnErr, OnOk};
 ghost use Rattle.bit_field.specs.Shapes.{IsShape};
 ghost use Rattle.bit_field.specs.Shapes as shapes;
 ghost use Rattle.pipe_latch.specs.Latches as latches;
 ghost use Rattle.rv_table.specs.Actions as rv;
+ghost use Rattle.cyc_machine.specs.Cycle as cycles;
 ghost use Rattle.run_log.specs.Answers.{IsRecorded};
-ghost use Rattle.run_log.specs.Journals as journals;
+ghost use Rattle.run_log.specs.Cycles.{IsWritten};
 ghost use Rattle.run_log.specs.declared.recording.RecordError.TheVariants.{OutOfMemory as no_memory};
 
-use crate::journal::Journal;
-use crate::recorded::Recorded;
 use avf_base::{End, OutOfMemory, Steps};
 use bit_field::{Shape, plain_shape};
 use cyc_machine::Machine;
 use elf_load::Image;
+use flush_view::run_law;
 use pipe_latch::IdEx;
+use run_record::{Journal, Recorded};
 use rv_table::{Op, is_clocked};
 use std::alloc::{AllocError, Global};
 use std::sync::ledger::Ledger;
@@ -62,7 +63,8 @@ pub fn record<'i, L: Ledger>(
     record_shaped(alloc, image, &plain_shape(), budget, steps)
 }
 
-/// The run of an image on a machine of a shape, whose RAM the image has; `budget` is 1 to 1,000,000 cycles.
+/// The run of an image on a machine of a shape, whose RAM the image has; `budget` is 1 to 1,000,000 cycles. What is recorded
+/// is the instruction set's run, with the clock values that the machine gave.
 pub fn record_shaped<'i, L: Ledger>(
     alloc: Global,
     image: &'i Image,
@@ -78,17 +80,37 @@ pub fn record_shaped<'i, L: Ledger>(
     ensures steps { steps.new ≤ steps.old + budget }
     ensures ticks { IfOk result (λ r. steps.new ≡ steps.old + r.cycles) }
 {
+    run_law(image, shape);
     let mut machine = Machine::shaped(alloc, image, shape)?;
     let mut journal = Journal::new(alloc);
     for cycle in 0..budget {
-        let reads_clock = reads_clock(machine.id_ex());
-        let report = machine.step(steps);
-        journal.note(&report, cycle, reads_clock)?;
-        if let Some(end) = report.end {
-            return Ok(closed(image, shape, cycle + 1, end, journal));
+        if let Some(end) = run_cycle(&mut machine, &mut journal, cycle, steps)? {
+            return Ok(journal.close(image, shape, cycle + 1, end));
         }
     }
     Err(RecordError::NoEnd)
+}
+
+// One cycle of the machine, of this number, which is written down. Answers the end that it brings.
+fn run_cycle<L: Ledger>(
+    machine: &mut Machine<'_>,
+    journal: &mut Journal,
+    cycle: u32,
+    steps: &mut Steps<L>,
+) -> Result<Option<End>, AllocError>
+    requires running { machine.old.ended ≡ false }
+    requires number { machine.old.cycle ≡ cycle }
+    requires cycles { cycle < 2 ^ 31 }
+    requires retired { journal.old.retired < 2 ^ 31 }
+    ensures state { machine.new ≡ cycles.cycle machine.old }
+    ensures end { IfOk result (λ end. end ≡ cycles.end_in machine.old) }
+    ensures written { OnOk result (IsWritten machine.old journal.old journal.new) }
+    ensures steps { steps.new ≡ steps.old + 1 }
+{
+    let reads_clock = reads_clock(machine.id_ex());
+    let report = machine.step(steps);
+    journal.note(&report, cycle, reads_clock)?;
+    Ok(report.end)
 }
 
 // Whether ID/EX holds a read of the cycle counter.
@@ -102,35 +124,4 @@ fn reads_clock(decoded: &IdEx) -> bool
         rs2: decoded.rs2,
         imm: decoded.imm,
     })
-}
-
-// The record of a run that ended.
-fn closed<'i>(
-    image: &'i Image,
-    shape: &Shape,
-    cycles: u32,
-    end: End,
-    journal: Journal,
-) -> Recorded<'i>
-    requires { journal.retired ≤ length journal.issues.items }
-    ensures { result ≡ journals.closed image.now shape.now cycles end journal }
-{
-    let Journal {
-        output,
-        events,
-        issues,
-        clocks,
-        retired,
-    } = journal;
-    Recorded {
-        image,
-        shape: *shape,
-        cycles,
-        instructions: retired,
-        output,
-        end,
-        events,
-        issues,
-        clocks,
-    }
 }

@@ -9,7 +9,8 @@ use Rattle.cyc_machine.specs.declared.fate.Fate.TheVariants.{Absent, Dropped, St
 use Rattle.cyc_machine.specs.Pipeline.{executed_after}
 use Rattle.cyc_machine.specs.Cycle.{cycled, fate, served_m}
 use Rattle.cyc_machine.specs.State.{State, reset}
-use Rattle.run_log.specs.Run.{cycle_if, goes, issues_below, retired_below, state_at, with_one}
+use Rattle.run_record.specs.Run.{IsRecord, RecordedRun}
+use Rattle.cyc_machine.specs.Run.{cycle_if, goes, issues_below, retired_below, state_after, state_at, with_one}
 
 -- how many instructions a latch holds
 abbrev pub occupied : Bool → ℕ
@@ -53,8 +54,12 @@ by_fate image (Goes a b) leaves d cycle issued m s n xs h =
     omega (arith, one, out, longer, h)
 
 pub retired-issued : (image : LoadedImage) (shape : Shape) (t : ℕ) → retired_below image shape t + occupied (state_at image shape t).m.valid ≤ length (issues_below image shape t)
-unfolding state_at retired_below issues_below cycled reset
+unfolding state_after retired_below issues_below cycled reset
 retired-issued image shape zero = omega arith
 retired-issued image shape (suc t) =
     let s = state_at image shape t in
     by_fate s.image (fate s) (served_m s).goes s.d s.cycle s.issued s.m s (retired_below image shape t) (issues_below image shape t) (retired-issued image shape t)
+
+-- each retired instruction of a record has its issue cycle
+pub record_issued : (r : RecordedRun) → IsRecord r → r.instructions ≤ length r.issues
+record_issued r is = let few = retired-issued r.image r.shape r.cycles in rw (is.instructions, is.issues) (omega (arith, few))

@@ -7,7 +7,7 @@ use std::marker::Model;
 use wb_cache::CacheEvent;
 
 /// The recorded run of an image: how many cycles and instructions it took, what it put, how it ended, and what happened on
-/// the way. No list of states is kept.
+/// the way. No list of states is kept. Every record is that of the machine's run on its image, from reset to the end.
 #[derive(Drop)]
 pub struct Recorded<'i> {
     pub(crate) image: &'i Image,
@@ -22,8 +22,7 @@ pub struct Recorded<'i> {
 }
 
 impl<'i> Model for Recorded<'i> {
-    ghost use Rattle.std.specs.Prelude.{◌≤◌, length};
-    ghost use Rattle.run_log.specs.Run.{RecordedRun};
+    ghost use Rattle.run_record.specs.Run.{IsRecord, RecordedRun};
 
     ghost Value = { RecordedRun };
 
@@ -39,11 +38,29 @@ impl<'i> Model for Recorded<'i> {
       clocks = x.clocks.items;
     } };
 
-    ghost invariant = { λ x. x.instructions ≤ length x.issues.items };
+    ghost invariant = { λ x. IsRecord (record {
+      image = x.image.now;
+      shape = x.shape;
+      cycles = x.cycles;
+      instructions = x.instructions;
+      output = x.output.items;
+      end = x.end;
+      events = x.events.items;
+      issues = x.issues.items;
+      clocks = x.clocks.items;
+    }) };
 }
 
 impl<'i> Recorded<'i> {
-    ghost use Rattle.std.specs.Prelude.{◌≡◌, ◌<◌, length, slice_index};
+    ghost use Rattle.std.specs.Prelude.{◌≡◌, ◌<◌, slice_index};
+    ghost use Rattle.run_record.specs.Run.{IsRecord};
+
+    /// Changes nothing; says that every record is that of its image's run.
+    pub fn is_record(&self)
+        ensures { IsRecord self.now }
+    {
+        let _cycles = self.cycles;
+    }
 
     /// The image that ran.
     pub fn image(&self) -> &'i Image

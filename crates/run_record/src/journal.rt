@@ -1,14 +1,20 @@
 // What is written down cycle by cycle.
 ghost use Rattle.std.specs.Prelude.{◌≡◌, ◌+◌, ◌<◌, ◌^◌, OnOk, ⊤, if◌then◌else◌};
-ghost use Rattle.run_log.specs.Run.{with_one};
-ghost use Rattle.run_log.specs.Journals.{Adds, IsEmpty};
-ghost use Rattle.run_log.specs.Journals as journals;
+ghost use Rattle.cyc_machine.specs.Run.{with_one};
+ghost use Rattle.run_record.specs.Journals.{Adds, IsEmpty};
+ghost use Rattle.run_record.specs.Journals as journals;
+ghost use Rattle.run_record.specs.Run.{IsRecord};
 
+use crate::recorded::Recorded;
+use avf_base::End;
+use bit_field::Shape;
 use cyc_machine::CycleReport;
+use elf_load::Image;
 use std::alloc::{AllocError, Global};
 use wb_cache::CacheEvent;
 
-/// The lists of a run so far.
+/// The lists of a run so far: the bytes put, the events of the cache, the cycles in which an instruction left EX, those in which
+/// that was a read of the cycle counter, and how many instructions were retired.
 #[derive(Drop)]
 pub struct Journal {
     pub output: Vec<u8>,
@@ -53,6 +59,31 @@ impl Journal {
             self.retired += 1;
         }
         Ok(())
+    }
+
+    /// The record of a run on an image that ended so after so many cycles, all of which are written down.
+    pub fn close<'i>(self, image: &'i Image, shape: &Shape, cycles: u32, end: End) -> Recorded<'i>
+        requires { IsRecord (journals.closed image.now shape.now cycles end self) }
+        ensures { result ≡ journals.closed image.now shape.now cycles end self }
+    {
+        let Journal {
+            output,
+            events,
+            issues,
+            clocks,
+            retired,
+        } = self;
+        Recorded {
+            image,
+            shape: *shape,
+            cycles,
+            instructions: retired,
+            output,
+            end,
+            events,
+            issues,
+            clocks,
+        }
     }
 }
 

@@ -4,8 +4,9 @@ use Rattle.cyc_machine.specs.declared.report.CycleReport.{CycleReport}
 use Rattle.avf_base.specs.declared.end.End.{End}
 use Rattle.elf_load.specs.Image.{LoadedImage}
 use Rattle.bit_field.specs.declared.shapes.Shape.{Shape}
-use Rattle.run_log.specs.Run.{RecordedRun, with_one}
-use Rattle.run_log.specs.declared.journal.Journal.{Journal}
+use Rattle.cyc_machine.specs.Run.{with_one}
+use Rattle.run_record.specs.Run.{RecordedRun}
+use Rattle.run_record.specs.declared.journal.Journal.{Journal}
 
 abbrev pub noted_if : Bool → ℕ → Option ℕ
 noted_if does cycle = if does then Some cycle else None
