@@ -1,6 +1,8 @@
 mod ByStatus
 mod Chains
+mod Deadness
 mod Numerals
+mod Programs
 mod Rams
 mod Retold
 mod Runs

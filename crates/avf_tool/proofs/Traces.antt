@@ -1,12 +1,16 @@
--- A trace that has ended is the trace of any greater number of instructions.
+-- A run that has ended is recorded whole by any greater number of instructions.
 use Rattle.std.proofs.Common.{◌≡◌, ℕ, zero, suc, ◌<◌, ◌≤◌, List, [], ◌∷◌, length, true, false, Bool, None, Some, refl, sym, ap, ◌∙◌, arith}
-use Rattle.std.specs.Prelude.{is_none, slice_get, if◌then◌else◌}
+use Rattle.std.specs.Prelude.{◌≢◌, Option, is_none, slice_get, if◌then◌else◌}
+use Rattle.avf_base.specs.declared.end.End.{End}
 use Rattle.elf_load.specs.Image.{LoadedImage}
 use Rattle.rv_isa.specs.Effects.{retired_at}
 use Rattle.rv_isa.specs.Instruction.{State, instruction}
-use Rattle.rv_isa.specs.Runs.{EndedRun, IsTrace, after, reset}
+use Rattle.rv_isa.specs.Runs.{EndedRun as Trace, IsTrace, after, reset}
 use Rattle.rv_isa.specs.declared.effect.Retired.{Retired}
-use Rattle.avf_tool.specs.Traces.{ended_trace, recorded, trace_to}
+use Rattle.flush_view.specs.Positions.{trace_at}
+use Rattle.flush_view.specs.RunLaw.{EndsAfter}
+use Rattle.avf_tool.specs.Texts.{program_text, run_text}
+use Rattle.avf_tool.specs.Traces.{ProgramRun, program_run, recorded}
 
 -- a run that has ended stays
 stays : (image : LoadedImage) (n : ℕ) (at : State) → is_none at.stop ≡ false → after image n at ≡ at
@@ -58,22 +62,42 @@ entries_are image (suc more) at (e ∷ es) le retired going over =
     ∙ ap (λ x. x ∷ recorded image more (instruction image at)) head
     ∙ ap (λ l. e ∷ l) tail
 
--- a trace within the limit is the one that ended
-pub traced : (image : LoadedImage) (clocks : List ℕ) (limit : ℕ) (run : EndedRun) → length run.entries ≤ limit → IsTrace image clocks run → ended_trace image clocks limit ≡ Some run
-unfolding ended_trace
-traced image clocks limit run le trace =
-    let start : State = reset image clocks in
-    let last : State = after image (length run.entries) start in
-    let over : is_none last.stop ≡ false = ap is_none trace.ends in
-    let same : after image limit start ≡ last = reached image limit (length run.entries) start le over in
-    let stop : (after image limit start).stop ≡ Some run.end = ap (λ s. s.stop) same ∙ trace.ends in
-    let output : (after image limit start).log.output ≡ run.output = ap (λ s. s.log.output) same ∙ trace.puts in
-    let entries : recorded image limit start ≡ run.entries = entries_are image limit start run.entries le trace.retired trace.running over in
-    ap (trace_to image clocks limit) stop
-    ∙ ap (λ o. Some (record { entries = recorded image limit start; output = o; end = run.end })) output
-    ∙ ap (λ l. Some (record { entries = l; output = run.output; end = run.end })) entries
+-- a limit that isn't below the trace's length records the trace
+pub traced : (image : LoadedImage) (clocks : List ℕ) (limit : ℕ) (trace : Trace) → length trace.entries ≤ limit → IsTrace image clocks trace → (program_run image clocks limit).entries ≡ trace.entries
+traced image clocks limit trace le is =
+    entries_are image limit (reset image clocks) trace.entries le is.retired is.running (ap is_none is.ends)
 
--- a trace that the limit doesn't end
-pub endless : (image : LoadedImage) (clocks : List ℕ) (limit : ℕ) → (after image limit (reset image clocks)).stop ≡ None → ended_trace image clocks limit ≡ None
-unfolding ended_trace
-endless image clocks limit h = ap (trace_to image clocks limit) h
+-- as many instructions are recorded as there are
+recorded_all : (image : LoadedImage) (more n : ℕ) (at : State) → n ≤ more → ((i : ℕ) → i < n → (after image i at).stop ≡ None) → is_none (after image n at).stop ≡ false → length (recorded image more at) ≡ n
+unfolding after recorded
+recorded_all image zero zero at le going over = refl
+recorded_all image zero (suc n) at le going over = absurd (omega (arith, le))
+recorded_all image (suc more) zero at le going over = rw over refl
+recorded_all image (suc more) (suc n) at le going over =
+    let first : at.stop ≡ None = going 0 (omega arith) in
+    let rest : length (recorded image more (instruction image at)) ≡ n =
+    recorded_all image more n (instruction image at) (omega (arith, le))
+    (λ i h. ap (λ s. s.stop) (sym (goes image i at first)) ∙ going (suc i) (omega (arith, h)))
+    (ap (λ s. is_none s.stop) (sym (goes image n at first)) ∙ over) in
+    ap (λ o. length (if is_none o then retired_at image at ∷ recorded image more (instruction image at) else [])) first ∙ ap suc rest
+
+text_as : (program : ProgramRun) (output : List ℕ) (end : End) (n : ℕ) → program.end ≡ Some end → program.output ≡ output → length program.entries ≡ n → program_text program ≡ run_text output end n
+text_as program output end n e f g = rw (e, f, g) refl
+
+-- the text of the program's run
+pub told : (image : LoadedImage) (clocks : List ℕ) (limit n : ℕ) (end : End) (output : List ℕ) → n ≤ limit → EndsAfter image clocks n end output → program_text (program_run image clocks limit) ≡ run_text output end n
+told image clocks limit n end output le is =
+    let start : State = reset image clocks in
+    let over : is_none (after image n start).stop ≡ false = ap is_none is.ends in
+    let same : after image limit start ≡ after image n start = reached image limit n start le over in
+    text_as (program_run image clocks limit) output end n
+    (ap (λ s. s.stop) same ∙ is.ends)
+    (ap (λ s. s.log.output) same ∙ is.puts)
+    (recorded_all image limit n start le is.running over)
+
+some_end : (o : Option End) (end : End) → o ≡ Some end → o ≡ None → ⊥
+some_end o end e h = absurd cc
+
+-- the trace ends within the instructions that were retired
+pub ends : (image : LoadedImage) (clocks : List ℕ) (n : ℕ) (end : End) (output : List ℕ) → EndsAfter image clocks n end output → (trace_at image clocks n).stop ≢ None
+ends image clocks n end output is h = some_end (trace_at image clocks n).stop end is.ends h

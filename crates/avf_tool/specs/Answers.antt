@@ -9,11 +9,12 @@ use Rattle.bit_field.specs.declared.shapes.Shape.{Shape}
 use Rattle.elf_load.specs.Image.{LoadedImage}
 use Rattle.elf_load.specs.Meaning.{image_of}
 use Rattle.elf_load.specs.Refusal.{first_refusal}
+use Rattle.flush_view.specs.RunLaw.{EndsAfter}
 use Rattle.run_log.specs.Run.{RecordedRun}
-use Rattle.rv_isa.specs.Runs.{EndedRun as Trace}
-use Rattle.avf_tool.specs.Traces.{ended_trace}
+use Rattle.rv_isa.specs.Runs.{EndedRun as Trace, IsTrace}
+use Rattle.avf_tool.specs.Traces.{ProgramRun, program_run}
 use Rattle.avf_tool.specs.Runs.{EndedRun, ended_run}
-use Rattle.avf_tool.specs.Texts.{deadness_text, ended_text, shown}
+use Rattle.avf_tool.specs.Texts.{deadness_text, program_text, shown}
 use Rattle.avf_tool.specs.Words.{Job, Run, Dead}
 
 -- a text, or a refusal
@@ -42,27 +43,19 @@ abbrev pub unless_endless : Option EndedRun → (EndedRun → Answer) → Answer
 unless_endless (Some run) next = next run
 unless_endless None next = Refused NoEnd
 
--- what every command on a run goes on with: the machine's run on the image from reset, in at most so many cycles
-abbrev pub on_run : Shape → LoadedImage → ℕ → (EndedRun → Answer) → Answer
-on_run shape image budget next = unless_endless (ended_run image shape budget) next
+-- What every command on a run goes on with: the instruction set's run of the image, with the clock values that the machine gives,
+-- where the machine's run from reset ends in at most so many cycles. (An instruction takes a cycle at least.)
+abbrev pub on_run : Shape → LoadedImage → ℕ → (ProgramRun → Answer) → Answer
+on_run shape image budget next =
+    unless_endless (ended_run image shape budget) (λ run. next (program_run image run.clocks run.cycles))
 
 -- `run` on an image
 abbrev pub run_on : Shape → ℕ → LoadedImage → Answer
-run_on shape budget image = on_run shape image budget (λ run. Text (ended_text run))
+run_on shape budget image = on_run shape image budget (λ program. Text (program_text program))
 
-abbrev pub unless_traceless : Option Trace → (Trace → Answer) → Answer
-unless_traceless (Some trace) next = next trace
-unless_traceless None next = Refused NoEnd
-
--- the instruction set's trace of an image, of as many instructions as the machine retired, with the clock values that the
--- machine's run gave
-abbrev pub on_trace : LoadedImage → EndedRun → (Trace → Answer) → Answer
-on_trace image run next = unless_traceless (ended_trace image run.clocks run.instructions) next
-
--- `dead` on an image: the classes of the trace's instructions
+-- `dead` on an image: the classes of its run's instructions
 abbrev pub dead_on : Shape → ℕ → LoadedImage → Answer
-dead_on shape budget image =
-    on_run shape image budget (λ run. on_trace image run (λ trace. Text (deadness_text trace.entries)))
+dead_on shape budget image = on_run shape image budget (λ program. Text (deadness_text program.entries))
 
 -- what a command answers where its file holds these contents
 abbrev pub answer : Job → List ℕ → Answer
@@ -89,17 +82,22 @@ IsLoaded shape contents (Err (BadImage k)) = first_refusal contents (ram_size sh
 IsLoaded shape contents (Err OutOfMemory) = ⊤
 IsLoaded shape contents (Err refusal) = ⊥
 
+-- A record of the machine's run that ended in at most so many cycles. It is the instruction set's run too.
+pub record IsRun (shape : Shape) (image : LoadedImage) (budget : ℕ) (run : RecordedRun) : Type 0 where
+  pub ended : ended_run image shape budget ≡ Some (shown run)
+  pub program : EndsAfter image run.clocks run.instructions run.end run.output
+  pub few : run.instructions ≤ run.cycles
+
 -- the machine's run on an image in at most so many cycles, or that they didn't end it
 abbrev pub Ran : Shape → LoadedImage → ℕ → Result RecordedRun Refusal → Type 0
-Ran shape image budget (Ok run) = ended_run image shape budget ≡ Some (shown run)
+Ran shape image budget (Ok run) = IsRun shape image budget run
 Ran shape image budget (Err NoEnd) = ended_run image shape budget ≡ None
 Ran shape image budget (Err OutOfMemory) = ⊤
 Ran shape image budget (Err refusal) = ⊥
 
--- the trace of an image with these clock values in at most so many instructions, or that they didn't end it
+-- the trace of an image with these clock values, which ends in at most so many instructions
 abbrev pub Traced : LoadedImage → List ℕ → ℕ → Result Trace Refusal → Type 0
-Traced image clocks limit (Ok trace) = ended_trace image clocks limit ≡ Some trace
-Traced image clocks limit (Err NoEnd) = ended_trace image clocks limit ≡ None
+Traced image clocks limit (Ok trace) = (length trace.entries ≤ limit) × IsTrace image clocks trace
 Traced image clocks limit (Err OutOfMemory) = ⊤
 Traced image clocks limit (Err refusal) = ⊥
 

@@ -2,6 +2,7 @@ pub mod Answers
 pub mod Ends
 pub mod Jobs
 pub mod Numbers
+pub mod Programs
 pub mod Runs
 pub mod Texts
 pub mod Traces

@@ -1,5 +1,5 @@
 -- The texts of the short commands.
-use Rattle.std.specs.Prelude.{ℕ, List, [], ◌∷◌, codes, count_by, decimal, length}
+use Rattle.std.specs.Prelude.{ℕ, Option, Some, None, List, [], ◌∷◌, codes, count_by, decimal, length}
 use Rattle.hex.specs.Hex.{encode_lower}
 use Rattle.avf_base.specs.Refusals.{joined}
 use Rattle.avf_base.specs.declared.end.End.{End}
@@ -11,6 +11,7 @@ use Rattle.dead_class.specs.declared.class.DeadClass.{DeadClass}
 use Rattle.dead_class.specs.declared.class.DeadClass.TheVariants.{Needed, Nop, FddReg, TddReg, FddMem, TddMem}
 use Rattle.run_log.specs.Run.{RecordedRun}
 use Rattle.avf_tool.specs.Runs.{EndedRun}
+use Rattle.avf_tool.specs.Traces.{ProgramRun}
 
 -- the bytes that a program put, as pairs of lower-case hexadecimal digits
 abbrev pub output_text : List ℕ → List ℕ
@@ -32,13 +33,17 @@ run_text output end instructions = joined (
     ∷ codes "\nend " ∷ end_word end ∷ codes " " ∷ decimal (end_number end)
     ∷ codes "\ninstructions " ∷ decimal instructions ∷ codes "\n" ∷ [])
 
--- the same of a run that has ended
-abbrev pub ended_text : EndedRun → List ℕ
-ended_text run = run_text run.output run.end run.instructions
+abbrev pub with_end : Option End → (End → List ℕ) → List ℕ
+with_end (Some end) text = text end
+with_end None text = []
 
--- what `run` shows of a record
+-- the same of a program's run; one that hasn't ended has no text
+abbrev pub program_text : ProgramRun → List ℕ
+program_text program = with_end program.end (λ end. run_text program.output end (length program.entries))
+
+-- what of a record is the machine's run
 abbrev pub shown : RecordedRun → EndedRun
-shown r = record { output = r.output; end = r.end; instructions = r.instructions; clocks = r.clocks }
+shown r = record { cycles = r.cycles; clocks = r.clocks }
 
 abbrev pub count_of : DeadClass → List DeadClass → ℕ
 count_of class classes = count_by (is_class class) classes

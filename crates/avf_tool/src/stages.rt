@@ -1,8 +1,9 @@
 // What the commands have in common: a file is read, an image is loaded, and it runs.
-ghost use Rattle.std.specs.Prelude.{◌≡◌, ◌≤◌, List, ℕ, length, IfOk};
+ghost use Rattle.std.specs.Prelude.{◌≡◌, ◌≢◌, ◌≤◌, List, ℕ, length, IfOk, None};
 ghost use Rattle.avf_base.specs.Refusals.{ByContents, cause_of};
 ghost use Rattle.avf_base.specs.declared.refusal.Refusal.TheVariants.{BadImage};
 ghost use Rattle.bit_field.specs.Shapes.{IsShape};
+ghost use Rattle.flush_view.specs.Positions.{trace_at};
 ghost use Rattle.avf_tool.specs.Answers.{IsLoaded, IsRead, Ran, Traced, image_limit, ram_size};
 
 use avf_base::{ReadError, Refusal, Shelf, Steps, read_file};
@@ -63,8 +64,8 @@ pub fn load_image(alloc: Global, contents: &[u8], shape: &Shape) -> Result<Image
     }
 }
 
-/// The machine's run on an image in at most `budget` cycles.
-#[tactic(auto, using(crate::proofs::Runs::ran, crate::proofs::Runs::endless))]
+/// The machine's run on an image in at most `budget` cycles, which is the instruction set's run.
+#[tactic(auto, using(crate::proofs::Runs::ran, crate::proofs::Runs::not_ran))]
 pub fn run_image<'i, L: Ledger>(
     alloc: Global,
     image: &'i Image,
@@ -85,8 +86,7 @@ pub fn run_image<'i, L: Ledger>(
     }
 }
 
-/// The trace of an image with these clock values, of at most `limit` instructions.
-#[tactic(auto, using(crate::proofs::Traces::traced, crate::proofs::Traces::endless))]
+/// The trace of an image with these clock values, which ends in at most `limit` instructions.
 pub fn trace_image<M: Ledger>(
     alloc: Global,
     image: &Image,
@@ -94,11 +94,12 @@ pub fn trace_image<M: Ledger>(
     limit: u32,
     applies: &mut Steps<M>,
 ) -> Result<Trace, Refusal>
+    requires { (trace_at image.now clocks.now limit).stop ≢ None }
     ensures { Traced image.now clocks.now limit result }
 {
     match run_clocked(alloc, image, limit, clocks, applies) {
         Ok(trace) => Ok(trace),
-        Err(IsaError::NoEnd) => Err(Refusal::NoEnd),
+        Err(IsaError::NoEnd) => unreachable!(),
         Err(IsaError::OutOfMemory) => Err(Refusal::OutOfMemory),
     }
 }

@@ -1,6 +1,6 @@
 // The texts of the short commands.
 ghost use Rattle.std.specs.Prelude.{◌≡◌, IfOk, string_bytes};
-ghost use Rattle.avf_tool.specs.Texts.{end_number, end_word, output_text, ended_text, shown};
+ghost use Rattle.avf_tool.specs.Texts.{end_number, end_word, output_text};
 ghost use Rattle.avf_tool.specs.Texts as texts;
 
 use avf_base::End;
@@ -38,7 +38,7 @@ fn output_text(alloc: Global, output: &[u8]) -> Result<String, AllocError>
 
 /// The text of `run`: what the program put, how it ended, and how many instructions were retired.
 pub fn run_text(alloc: Global, run: &Recorded<'_>) -> Result<String, AllocError>
-    ensures { IfOk result (λ text. string_bytes text ≡ ended_text (shown run.now)) }
+    ensures { IfOk result (λ text. string_bytes text ≡ texts.run_text run.now.output run.now.end run.now.instructions) }
 {
     let output = output_text(alloc, run.output())?;
     let word = end_word(run.end());

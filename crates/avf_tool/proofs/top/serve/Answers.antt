@@ -1,4 +1,4 @@
-use Rattle.std.proofs.Common.{refl, sym, subst}
+use Rattle.std.proofs.Common.{refl}
 use Rattle.avf_tool.proofs.Serving.{fault_serves, refusal_serves, text_serves}
 use Rattle.avf_tool.proofs.top.serve.Goals as goal
 
