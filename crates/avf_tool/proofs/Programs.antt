@@ -1,5 +1,5 @@
 -- Where the machine's run has ended, so has the instruction set's.
-use Rattle.std.proofs.Common.{◌≡◌, ℕ, zero, suc, ◌<◌, ◌⊎◌, inl, inr, Option, None, Some, refl, sym, ap, ◌∙◌, subst, arith}
+use Rattle.std.proofs.Common.{◌≡◌, ℕ, zero, suc, Option, None, Some, refl, ap, ◌∙◌, subst, arith}
 use Rattle.std.specs.Prelude.{IsSome, is_some, option_map}
 use Rattle.std.specs.Option.{option_or}
 use Rattle.avf_base.specs.declared.end.End.{End}
@@ -13,6 +13,7 @@ use Rattle.cyc_machine.specs.Cycle.{end_in}
 use Rattle.cyc_machine.specs.Run.{IsRunning, clocks_below, output_below, retired_below, state_at}
 use Rattle.flush_view.specs.RunLaw.{EndsAfter}
 use Rattle.flush_view.proofs.RunLaw.{run-law}
+use Rattle.run_log.proofs.Keeping.{running_more}
 use Rattle.run_log.proofs.Programs.{few_below}
 use Rattle.avf_tool.specs.Programs.{ProgramsEnd}
 use Rattle.avf_tool.specs.Runs.{EndedRun, ended_run}
@@ -31,16 +32,10 @@ abbrev Says : LoadedImage → Shape → ℕ → Option EndedRun → Type 0
 Says image shape n None = IsRunning image shape n
 Says image shape n (Some run) = Ending image shape run
 
-one_more : (image : LoadedImage) (shape : Shape) (n : ℕ) → end_in (state_at image shape n) ≡ None → IsRunning image shape n → IsRunning image shape (suc n)
-one_more image shape n none running u l = elim (last u l) as (λ _. end_in (state_at image shape u) ≡ None) [ inl e ↦ subst (λ v. end_in (state_at image shape v) ≡ None) (sym e) none | inr h ↦ running u h ]
-  where
-    last : (v : ℕ) → v < suc n → (v ≡ n) ⊎ (v < n)
-    last v l = grind arith
-
 says_next : (image : LoadedImage) (shape : Shape) (n : ℕ) (run : Option EndedRun) (end : Option End) → end_in (state_at image shape n) ≡ end → Says image shape n run
     → Says image shape (suc n) (option_or run (option_map (λ e. record { cycles = suc n; clocks = clocks_below image shape (suc n) }) end))
 says_next image shape n (Some run) end e h = h
-says_next image shape n None None e h = one_more image shape n e h
+says_next image shape n None None e h = running_more image shape n e h
 says_next image shape n None (Some end) e h = record { last = n; running = h; end = end; ends = e; is = refl }
 
 says : (image : LoadedImage) (shape : Shape) (n : ℕ) → Says image shape n (ended_run image shape n)

@@ -1,8 +1,9 @@
 -- A run that has ended is recorded whole by any greater number of instructions.
-use Rattle.std.proofs.Common.{◌≡◌, ℕ, zero, suc, ◌<◌, ◌≤◌, List, [], ◌∷◌, length, true, false, Bool, None, Some, refl, sym, ap, ◌∙◌, arith}
+use Rattle.std.proofs.Common.{◌≡◌, ℕ, zero, suc, ◌<◌, ◌≤◌, List, [], ◌∷◌, length, false, None, Some, refl, sym, ap, ◌∙◌, arith}
 use Rattle.std.specs.Prelude.{◌≢◌, Option, is_none, slice_get, if◌then◌else◌}
 use Rattle.avf_base.specs.declared.end.End.{End}
 use Rattle.elf_load.specs.Image.{LoadedImage}
+use Rattle.rv_isa.proofs.RunSteps.{after-on, after-stays}
 use Rattle.rv_isa.specs.Effects.{retired_at}
 use Rattle.rv_isa.specs.Instruction.{State, instruction}
 use Rattle.rv_isa.specs.Runs.{EndedRun as Trace, IsTrace, after, reset}
@@ -11,31 +12,6 @@ use Rattle.flush_view.specs.Positions.{trace_at}
 use Rattle.flush_view.specs.RunLaw.{EndsAfter}
 use Rattle.avf_tool.specs.Texts.{program_text, run_text}
 use Rattle.avf_tool.specs.Traces.{ProgramRun, program_run, recorded}
-
--- a run that has ended stays
-stays : (image : LoadedImage) (n : ℕ) (at : State) → is_none at.stop ≡ false → after image n at ≡ at
-unfolding after
-stays image zero at h = refl
-stays image (suc n) at h = rw h refl
-
--- one instruction further on both sides, unless the run has ended
-further : (image : LoadedImage) (more n : ℕ) (at : State) (going : Bool) → is_none at.stop ≡ going
-    → (is_none (after image n (instruction image at)).stop ≡ false → after image more (instruction image at) ≡ after image n (instruction image at))
-    → is_none (after image (suc n) at).stop ≡ false → after image (suc more) at ≡ after image (suc n) at
-unfolding after
-further image more n at true e ih h = rw e (ih (rw e at h))
-further image more n at false e ih h = rw e refl
-
-reached : (image : LoadedImage) (more n : ℕ) (at : State) → n ≤ more → is_none (after image n at).stop ≡ false → after image more at ≡ after image n at
-unfolding after
-reached image more zero at le h = stays image more at h
-reached image zero (suc n) at le h = absurd (omega (arith, le))
-reached image (suc more) (suc n) at le h =
-    further image more n at (is_none at.stop) refl (reached image more n (instruction image at) (omega (arith, le))) h
-
-goes : (image : LoadedImage) (i : ℕ) (at : State) → at.stop ≡ None → after image (suc i) at ≡ after image i (instruction image at)
-unfolding after
-goes image i at h = ap (λ o. if is_none o then after image i (instruction image at) else at) h
 
 some_is : {A : Type 0} (x y : A) → Some x ≡ Some y → x ≡ y
 some_is x y e = cc
@@ -55,9 +31,9 @@ entries_are image (suc more) at (e ∷ es) le retired going over =
     let head : retired_at image at ≡ e = sym (some_is e (retired_at image at) (retired 0 (omega arith))) in
     let tail : recorded image more (instruction image at) ≡ es =
     entries_are image more (instruction image at) es (omega (arith, le))
-    (λ i h. retired (suc i) (omega (arith, h)) ∙ ap (λ s. Some (retired_at image s)) (goes image i at first))
-    (λ i h. ap (λ s. s.stop) (sym (goes image i at first)) ∙ going (suc i) (omega (arith, h)))
-    (ap (λ s. is_none s.stop) (sym (goes image (length es) at first)) ∙ over) in
+    (λ i h. retired (suc i) (omega (arith, h)) ∙ ap (λ s. Some (retired_at image s)) (after-on image i at first))
+    (λ i h. ap (λ s. s.stop) (sym (after-on image i at first)) ∙ going (suc i) (omega (arith, h)))
+    (ap (λ s. is_none s.stop) (sym (after-on image (length es) at first)) ∙ over) in
     ap (λ o. if is_none o then retired_at image at ∷ recorded image more (instruction image at) else []) first
     ∙ ap (λ x. x ∷ recorded image more (instruction image at)) head
     ∙ ap (λ l. e ∷ l) tail
@@ -77,8 +53,8 @@ recorded_all image (suc more) (suc n) at le going over =
     let first : at.stop ≡ None = going 0 (omega arith) in
     let rest : length (recorded image more (instruction image at)) ≡ n =
     recorded_all image more n (instruction image at) (omega (arith, le))
-    (λ i h. ap (λ s. s.stop) (sym (goes image i at first)) ∙ going (suc i) (omega (arith, h)))
-    (ap (λ s. is_none s.stop) (sym (goes image n at first)) ∙ over) in
+    (λ i h. ap (λ s. s.stop) (sym (after-on image i at first)) ∙ going (suc i) (omega (arith, h)))
+    (ap (λ s. is_none s.stop) (sym (after-on image n at first)) ∙ over) in
     ap (λ o. length (if is_none o then retired_at image at ∷ recorded image more (instruction image at) else [])) first ∙ ap suc rest
 
 text_as : (program : ProgramRun) (output : List ℕ) (end : End) (n : ℕ) → program.end ≡ Some end → program.output ≡ output → length program.entries ≡ n → program_text program ≡ run_text output end n
@@ -89,7 +65,7 @@ pub told : (image : LoadedImage) (clocks : List ℕ) (limit n : ℕ) (end : End)
 told image clocks limit n end output le is =
     let start : State = reset image clocks in
     let over : is_none (after image n start).stop ≡ false = ap is_none is.ends in
-    let same : after image limit start ≡ after image n start = reached image limit n start le over in
+    let same : after image limit start ≡ after image n start = after-stays image n limit start end le is.ends in
     text_as (program_run image clocks limit) output end n
     (ap (λ s. s.stop) same ∙ is.ends)
     (ap (λ s. s.log.output) same ∙ is.puts)

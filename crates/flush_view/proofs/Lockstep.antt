@@ -141,6 +141,10 @@ module _ (s u : State) (same : DiffersInIgnored s u) where
       ∙ ap (λ (x : List Fetched). decoded_after (fate u) u.d x u.w s.registers) same-entries
       ∙ ap (decoded_after (fate u) u.d (entries u.buffer) u.w) same.registers
 
+  pub same-decoded : (cycle s).d ≡ (cycle u).d
+  unfolding cycled
+  same-decoded = next-d
+
   next-m : read_of_executed (executed_after s.image (fate s) (served_m s).goes s.d s.cycle s.issued s.m) ≡ read_of_executed (executed_after u.image (fate u) (served_m u).goes u.d u.cycle u.issued u.m)
   next-m =
       by_d (λ f d. read_of_executed (executed_after s.image f (served_m s).goes d s.cycle s.issued s.m)) (λ x y. ap read_of_executed (executed-empty s.image (served_m s).goes x y s.cycle s.issued s.m))
@@ -217,4 +221,5 @@ lockstep-law s is =
     record {
       report = λ u other same. same-report s u same;
       state = λ u other same. same-next s u same (machine-steady s is) (machine-steady u other);
+      decoded = λ u other same. same-decoded s u same;
     }

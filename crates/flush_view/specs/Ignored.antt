@@ -79,7 +79,9 @@ pub record SameReport (s u : State) : Type 0 where
   pub end : end_in s ≡ end_in u
 
 -- The lockstep law: a state that differs from s in ignored fields alone has the same report, and its next state differs from
--- s's, which is `next`, in ignored fields alone.
+-- s's, which is `next`, in ignored fields alone. Their ID/EX are the same, the count of an empty one too: so where that count is the
+-- same from the first, no cycle makes it differ.
 pub record LockstepLaw (s next : State) : Type 0 where
   pub report : (u : State) → IsMachine u → DiffersInIgnored s u → SameReport s u
   pub state : (u : State) → IsMachine u → DiffersInIgnored s u → DiffersInIgnored next (cycle u)
+  pub decoded : (u : State) → IsMachine u → DiffersInIgnored s u → next.d ≡ (cycle u).d

@@ -51,6 +51,13 @@ count_below : (b : Bool) (m n t : ℕ) → n ≡ (if b then m + 1 else m) → m 
 count_below true m n t e l = let h : n ≡ m + 1 = e in omega arith
 count_below false m n t e l = let h : n ≡ m = e in omega arith
 
+-- a cycle that brings no end
+pub running_more : (image : LoadedImage) (shape : Shape) (t : ℕ) → end_in (state_at image shape t) ≡ None → IsRunning image shape t → IsRunning image shape (suc t)
+running_more image shape t none running u l = elim (last u l) as (λ _. end_in (state_at image shape u) ≡ None) [ inl e ↦ subst (λ v. end_in (state_at image shape v) ≡ None) (sym e) none | inr h ↦ running u h ]
+  where
+    last : (v : ℕ) → v < suc t → (v ≡ t) ⊎ (v < t)
+    last v l = grind arith
+
 -- The lists after one more cycle.
 module _ (image : LoadedImage) (shape : Shape) (t : ℕ) (s : State) (old new : Journal) (kept : Kept image shape t s old) (written : IsWritten s old new) where
   output_after : new.output.items ≡ output_below image shape (suc t)
@@ -76,12 +83,6 @@ module _ (image : LoadedImage) (shape : Shape) (t : ℕ) (s : State) (old new : 
   end_as : end_in s ≡ end_in (state_at image shape t)
   end_as = ap end_in kept.state
 
-  still_running : end_in s ≡ None → IsRunning image shape (suc t)
-  still_running none u l = elim (last u l) as (λ _. end_in (state_at image shape u) ≡ None) [ inl e ↦ subst (λ v. end_in (state_at image shape v) ≡ None) (sym e) (sym end_as ∙ none) | inr h ↦ kept.running u h ]
-    where
-      last : (v : ℕ) → v < suc t → (v ≡ t) ⊎ (v < t)
-      last v l = grind arith
-
   -- the cycle that doesn't end the run
   pub goes_on : (next : State) → next ≡ cycle s → end_in s ≡ None → Kept image shape (suc t) next new
   unfolding state_after cycled
@@ -89,7 +90,7 @@ module _ (image : LoadedImage) (shape : Shape) (t : ℕ) (s : State) (old new : 
     state = e ∙ ap cycle kept.state;
     number = ap (λ (x : State). x.cycle) e ∙ ap (λ n. n + 1) kept.number ∙ add-one t;
     going = ap (λ (x : State). x.ended) e ∙ ap is_some none;
-    running = still_running none;
+    running = running_more image shape t (sym end_as ∙ none) kept.running;
     output = output_after;
     events = events_after;
     issues_at = issues_after;

@@ -84,29 +84,28 @@ pub fn record_shaped<'i, L: Ledger>(
     let mut machine = Machine::shaped(alloc, image, shape)?;
     let mut journal = Journal::new(alloc);
     for cycle in 0..budget {
-        if let Some(end) = run_cycle(&mut machine, &mut journal, cycle, steps)? {
+        if let Some(end) = run_cycle(&mut machine, &mut journal, steps)? {
             return Ok(journal.close(image, shape, cycle + 1, end));
         }
     }
     Err(RecordError::NoEnd)
 }
 
-// One cycle of the machine, of this number, which is written down. Answers the end that it brings.
+// One cycle of the machine, which is written down. Answers the end that it brings.
 fn run_cycle<L: Ledger>(
     machine: &mut Machine<'_>,
     journal: &mut Journal,
-    cycle: u32,
     steps: &mut Steps<L>,
 ) -> Result<Option<End>, AllocError>
     requires running { machine.old.ended ≡ false }
-    requires number { machine.old.cycle ≡ cycle }
-    requires cycles { cycle < 2 ^ 31 }
+    requires cycles { machine.old.cycle < 2 ^ 31 }
     requires retired { journal.old.retired < 2 ^ 31 }
     ensures state { machine.new ≡ cycles.cycle machine.old }
     ensures end { IfOk result (λ end. end ≡ cycles.end_in machine.old) }
     ensures written { OnOk result (IsWritten machine.old journal.old journal.new) }
     ensures steps { steps.new ≡ steps.old + 1 }
 {
+    let cycle = machine.cycle();
     let reads_clock = reads_clock(machine.id_ex());
     let report = machine.step(steps);
     journal.note(&report, cycle, reads_clock)?;

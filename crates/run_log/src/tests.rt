@@ -4,7 +4,10 @@ ghost use Rattle.std.specs.Prelude.{◌≡◌, ◌<◌};
 
 use super::*;
 use avf_base::{End, Steps, counter};
+use bit_field::plain_shape;
+use cyc_machine::Machine;
 use elf_load::{Image, load};
+use flush_view::{run_law, step_flush, view_byte};
 use std::alloc::Global;
 use std::fs::Files;
 use std::marker::Brand;
@@ -118,6 +121,25 @@ fn check_clock<L: Ledger>(
     assert!(rt; run.clocks() == [2].as_slice());
     assert_eq!(rt; run.instructions(), 3);
     assert_eq!(rt; run.issued_at(0), 2);
+    run.is_record();
+    Ok(())
+}
+
+// The same run by the cycle that carries the laws, in as many cycles; the program sees its own code, and 0 outside RAM.
+fn check_laws<L: Ledger>(rt: &impl Abort, alloc: Global, steps: &mut Steps<L>) -> Result<(), Fail> {
+    let image = flat(alloc, &CLOCK)?;
+    run_law(&image, &plain_shape());
+    let mut machine = Machine::new(alloc, &image)?;
+    assert_eq!(rt; view_byte(&machine, 0x1_0000), 0x73);
+    assert_eq!(rt; view_byte(&machine, 0x1_0003), 0xC0);
+    assert_eq!(rt; view_byte(&machine, 0), 0);
+    for cycle in 0..6u32 {
+        assert!(rt; !machine.ended());
+        assert!(rt; machine.cycle() == cycle);
+        let report = step_flush(&mut machine, steps);
+        assert_eq!(rt; report.end.is_some(), cycle == 5, "{cycle}");
+    }
+    assert!(rt; machine.ended());
     Ok(())
 }
 
@@ -128,7 +150,8 @@ fn check_all<R: Abort + Files, L: Ledger>(rt: &R, alloc: Global, blank: Blank) -
 {
     let mut steps = counter::<R, L>(rt, blank);
     check_conflict(rt, alloc, &mut steps)?;
-    check_clock(rt, alloc, &mut steps)
+    check_clock(rt, alloc, &mut steps)?;
+    check_laws(rt, alloc, &mut steps)
 }
 
 #[test]

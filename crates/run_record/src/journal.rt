@@ -38,7 +38,8 @@ impl Journal {
         }
     }
 
-    /// Writes down what a cycle reports; `reads_clock` says whether ID/EX held a read of the cycle counter.
+    /// Writes down what the cycle of this number reports; `reads_clock` says whether ID/EX held a read of the cycle counter.
+    /// After want of memory the lists may have grown in part, and no record can be made of them.
     pub fn note(
         &mut self,
         report: &CycleReport,

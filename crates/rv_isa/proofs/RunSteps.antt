@@ -5,7 +5,8 @@ use Rattle.avf_base.specs.declared.end.End.{End}
 use Rattle.rv_isa.specs.Instruction.{State, instruction}
 use Rattle.rv_isa.specs.Runs.{after}
 
-after-on : (image : LoadedImage) (n : ℕ) (at : State) → at.stop ≡ None → after image (suc n) at ≡ after image n (instruction image at)
+-- an instruction at the front
+pub after-on : (image : LoadedImage) (n : ℕ) (at : State) → at.stop ≡ None → after image (suc n) at ≡ after image n (instruction image at)
 unfolding after
 after-on image n at e = rw e refl
 
