@@ -20,6 +20,7 @@ pub struct InstBuf {
 
 impl Model for InstBuf {
     ghost use Rattle.std.specs.Prelude.{◌≡◌, List, length};
+    ghost use Rattle.inst_buf.specs.declared.buffer.TheConstants.{SLOTS};
     ghost use Rattle.inst_buf.specs.Entry.{Entry};
 
     ghost Value = { List Entry };

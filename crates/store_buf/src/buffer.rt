@@ -22,6 +22,7 @@ pub struct StoreBuf {
 
 impl Model for StoreBuf {
     ghost use Rattle.std.specs.Prelude.{◌≡◌, List, length};
+    ghost use Rattle.store_buf.specs.declared.buffer.TheConstants.{SLOTS};
     ghost use Rattle.store_buf.specs.Entry.{Entry};
 
     ghost Value = { List Entry };
