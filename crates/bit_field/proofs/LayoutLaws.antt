@@ -161,27 +161,27 @@ same_fields l number made x y h i bits = made.same x y (λ f.
 pub laws_of_layout : {S F : Type 0} (l : Layout S F) (number : F → ℕ) → IsMadeUp l number → FlipLaws (IsFit l) (λ _. bit_count l) (bit_of l) (flipped l)
 laws_of_layout l number made = record {
   fit_stays = λ x k h m.
-    let (p, is) = is_located l.width l.fields k m in
-    rw (flipped-at l x k p is) (flip_fits l number made x p.0 p.1 h (located_within l.width l.fields k p is));
+      let (p, is) = is_located l.width l.fields k m in
+      rw (flipped-at l x k p is) (flip_fits l number made x p.0 p.1 h (located_within l.width l.fields k p is));
   count_stays = λ x k h m. refl;
   is_bit = λ x k. bit_by_is_bit (l.value x) (field_of l k);
   flips_it = λ x k h m.
-    let (p, is) = is_located l.width l.fields k m in
-    bit_of-at l (flipped l x k) k p is
-    ∙ ap (λ y. bit_at (l.value y p.0) p.1) (flipped-at l x k p is)
-    ∙ flip_same l number made x p.0 p.1 (located_within l.width l.fields k p is)
-    ∙ ap (λ (b : ℕ). 1 - b) (sym (bit_of-at l x k p is));
+      let (p, is) = is_located l.width l.fields k m in
+      bit_of-at l (flipped l x k) k p is
+      ∙ ap (λ y. bit_at (l.value y p.0) p.1) (flipped-at l x k p is)
+      ∙ flip_same l number made x p.0 p.1 (located_within l.width l.fields k p is)
+      ∙ ap (λ (b : ℕ). 1 - b) (sym (bit_of-at l x k p is));
   flips_no_other = λ x k j h m n ne.
-    let (p, is) = is_located l.width l.fields k m in
-    let (q, so) = is_located l.width l.fields j n in
-    bit_of-at l (flipped l x k) j q so
-    ∙ ap (λ y. bit_at (l.value y q.0) q.1) (flipped-at l x k p is)
-    ∙ flip_other l number made x k j p q is so ne
-    ∙ sym (bit_of-at l x j q so);
+      let (p, is) = is_located l.width l.fields k m in
+      let (q, so) = is_located l.width l.fields j n in
+      bit_of-at l (flipped l x k) j q so
+      ∙ ap (λ y. bit_at (l.value y q.0) q.1) (flipped-at l x k p is)
+      ∙ flip_other l number made x k j p q is so ne
+      ∙ sym (bit_of-at l x j q so);
   restores = λ x k h m.
-    let (p, is) = is_located l.width l.fields k m in
-    flipped-at l (flipped l x k) k p is
-    ∙ ap (λ y. l.flip_in y p.0 p.1) (flipped-at l x k p is)
-    ∙ flip_restores l number made x p.0 p.1 (located_within l.width l.fields k p is);
+      let (p, is) = is_located l.width l.fields k m in
+      flipped-at l (flipped l x k) k p is
+      ∙ ap (λ y. l.flip_in y p.0 p.1) (flipped-at l x k p is)
+      ∙ flip_restores l number made x p.0 p.1 (located_within l.width l.fields k p is);
   same = λ x y h i c bits. same_fields l number made x y h i bits;
 }

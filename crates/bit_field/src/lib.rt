@@ -22,8 +22,8 @@ pub use lanes::{has_lane, lane_byte};
 pub use layouts::{Field, field_at};
 pub use places::{Place, Structure, structure_name, structure_named};
 pub use shapes::{
-    BHT_BITS, BTB_BITS, COUNTER_BITS, EX_MEM_BITS, IB_BITS, ID_EX_BITS, MEM_WB_BITS, PORT_BITS, RF_BITS, SB_BITS, Shape, bits_in, bits_of, is_shape,
-    plain_shape, tag_bits,
+    BHT_BITS, BTB_BITS, COUNTER_BITS, EX_MEM_BITS, IB_BITS, ID_EX_BITS, MEM_WB_BITS, PORT_BITS,
+    RF_BITS, SB_BITS, Shape, bits_in, bits_of, is_shape, plain_shape, tag_bits,
 };
 pub use strikes::Struck;
 

@@ -34,10 +34,7 @@ pub enum MemWbField {
 }
 
 /// The fields of MEM/WB in bit order.
-pub const MEM_WB_FIELDS: [MemWbField; 2] = [
-    MemWbField::Rd,
-    MemWbField::Value,
-];
+pub const MEM_WB_FIELDS: [MemWbField; 2] = [MemWbField::Rd, MemWbField::Value];
 
 impl Field for MemWbField {
     ghost use Rattle.pipe_latch.specs.ResultBits as bits;
