@@ -11,6 +11,7 @@ pub mod PortState
 pub mod RegisterBits
 pub mod Reports
 pub mod Run
+pub mod Sizes
 pub mod State
 pub mod Strikes
 pub mod Turn

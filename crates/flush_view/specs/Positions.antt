@@ -6,8 +6,9 @@ use Rattle.rv_isa.specs.Instruction.{State as Arch, Log, logged}
 use Rattle.rv_isa.specs.Runs.{after, reset}
 use Rattle.cyc_machine.specs.Run.{issues_below, state_at}
 use Rattle.cyc_machine.specs.State.{State}
-use Rattle.flush_view.specs.Flush.{Item, path}
-use Rattle.flush_view.specs.MemoryLaw.{done_in}
+use Rattle.flush_view.specs.Flush.{path}
+use Rattle.cyc_machine.specs.InFlight.{Item}
+use Rattle.cyc_machine.specs.Cycle.{done_in}
 
 -- the state before instruction i of an image's run with these clock values
 abbrev pub trace_at : LoadedImage → List ℕ → ℕ → Arch
