@@ -1,9 +1,8 @@
 -- A move of the port as a change of slots and of main memory, of the state's lists.
 use Rattle.std.proofs.Common.{◌≡◌, ℕ, ◌/◌, ◌%◌, List, length, arith, refl, sym, ap, ◌∙◌}
 use Rattle.std.specs.Prelude.{Option}
-use Rattle.elf_load.specs.Image.{LoadedImage, IsImage}
+use Rattle.elf_load.specs.Image.{LoadedImage, IsImage, ram_byte}
 use Rattle.store_buf.specs.Entry.{Entry}
-use Rattle.wb_cache.specs.Changes.{ram_byte}
 use Rattle.wb_cache.specs.Contents.{Contents, IsSized, slots}
 use Rattle.wb_cache.proofs.Calls.{ram-after_refill, slots-after_read, slots-after_refill, slots-after_write}
 use Rattle.cyc_machine.specs.declared.port.Move.{Move}
