@@ -213,7 +213,9 @@ pub fn serve(image: &Image, action: &Action, stores: &StoreBuf, word: Option<u32
     ensures { result ≡ memory_side.served image.now action.now (pending stores.now) word }
 {
     match action {
-        Action::Loads { kind, address, .. } => served_by(load_value(image, *kind, *address, stores, word)),
+        Action::Loads { kind, address, .. } => served_by(load_value(
+            image, *kind, *address, stores, word,
+        )),
         Action::Stores { address, .. } => Served {
             goes: has_room(image, *address / 4, stores),
             value: 0,
@@ -352,7 +354,11 @@ fn append(stores: &mut StoreBuf, image: &Image, action: &Action, room: bool)
     ensures { stores.new ≡ packed (pending stores.old ++ memory_side.appended image.now action.now room) }
 {
     match action {
-        Action::Stores { kind, address, value } => {
+        Action::Stores {
+            kind,
+            address,
+            value,
+        } => {
             if room && image.word_in_ram(*address / 4) {
                 stores.push(pending_store(*kind, *address, *value));
             } else {

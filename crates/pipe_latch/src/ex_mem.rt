@@ -180,7 +180,11 @@ pub fn latch_for(action: &Action) -> ExMem
             x: address,
             ..written
         },
-        Action::Stores { kind, address, value } => ExMem {
+        Action::Stores {
+            kind,
+            address,
+            value,
+        } => ExMem {
             kind: kind_of_store(kind),
             x: address,
             y: value,

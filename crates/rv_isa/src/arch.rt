@@ -14,9 +14,7 @@ use crate::{Effect, Retired};
 use avf_base::{OutOfMemory, Steps};
 use byteorder::{ByteOrder, LittleEndian};
 use elf_load::Image;
-use rv_table::{
-    Access, Action, Op, asked, decode, is_clocked, loaded, next_address, with_counter,
-};
+use rv_table::{Access, Action, Op, asked, decode, is_clocked, loaded, next_address, with_counter};
 use std::alloc::Global;
 use std::marker::Model;
 use std::sync::ledger::Ledger;

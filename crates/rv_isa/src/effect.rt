@@ -65,7 +65,11 @@ pub(crate) fn store_of(action: &Action) -> Option<(u32, u8, u32)>
     ensures { result ≡ spec.store_of action.now }
 {
     match *action {
-        Action::Stores { kind, address, value } => Some((address, kind.size() as u8, value)),
+        Action::Stores {
+            kind,
+            address,
+            value,
+        } => Some((address, kind.size() as u8, value)),
         _ => None,
     }
 }

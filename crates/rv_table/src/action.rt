@@ -135,7 +135,11 @@ fn stored_to(kind: StoreKind, address: u32, value: u32) -> Action
     ensures register { written_register result ≡ 0 }
 {
     if address % kind.size() == 0 {
-        Action::Stores { kind, address, value }
+        Action::Stores {
+            kind,
+            address,
+            value,
+        }
     } else {
         Action::Traps(4)
     }
