@@ -8,4 +8,5 @@ pub mod Positions
 pub mod Progress
 pub mod RunFacts
 pub mod RunLaw
+pub mod Struck
 pub mod Views

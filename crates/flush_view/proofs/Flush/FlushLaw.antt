@@ -142,7 +142,7 @@ after-action : (out : ℕ → Bool) (actions : List Action) (m : Action) → Avo
 after-action out [] m h k = (k, tt)
 after-action out (a ∷ actions) m h k = (h.0, after-action out actions m h.1 k)
 
-after-logged : (out : ℕ → Bool) (actions : List Action) (m : Action) → AvoidsAll out actions → Avoids out m → AvoidsAll out (with_action actions m)
+pub after-logged : (out : ℕ → Bool) (actions : List Action) (m : Action) → AvoidsAll out actions → Avoids out m → AvoidsAll out (with_action actions m)
 after-logged out actions Nothing h k = h
 after-logged out actions (Writes rd value) h k = after-action out actions (Writes rd value) h k
 after-logged out actions (Loads kind rd x) h k = after-action out actions (Loads kind rd x) h k

@@ -38,14 +38,14 @@ use Rattle.wb_cache.proofs.Kept.{AreBytes}
 use Rattle.flush_view.proofs.Steady.Lasting.{IsSteady}
 
 -- the bytes of the slots are below 256
-index_below : (xs : List ℕ) (i : ℕ) → All (λ b. b < 2 ^ 8) xs → slice_index xs i < 256
+pub index_below : (xs : List ℕ) (i : ℕ) → All (λ b. b < 2 ^ 8) xs → slice_index xs i < 256
 index_below xs i all = go (cases_lt i (length xs))
   where
     go : (i < length xs) ⊎ (length xs ≤ i) → slice_index xs i < 256
     go (inl l) = All-get_or (λ b. b < 2 ^ 8) xs i 0 l all
     go (inr m) = subst (λ n. n < 256) (sym (get_or-eq_default xs 0 m)) (lit< tt)
 
-slot_below : (c : Contents) (set way o : ℕ) → AreBytes c.bytes → (slots c set way).bytes o < 256
+pub slot_below : (c : Contents) (set way o : ℕ) → AreBytes c.bytes → (slots c set way).bytes o < 256
 unfolding slots slot_at
 slot_below c set way o is = go (nat_lt set c.shape.sets && nat_lt way c.shape.ways) (nat_lt o 16)
   where
