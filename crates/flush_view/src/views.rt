@@ -1,8 +1,7 @@
 // The byte that the program sees.
 ghost use Rattle.std.specs.Prelude.{◌≡◌};
 ghost use Rattle.flush_view.specs.Views as views;
-ghost use Rattle.elf_load.specs.Image.{in_ram};
-ghost use Rattle.wb_cache.specs.Changes.{ram_byte};
+ghost use Rattle.elf_load.specs.Image.{in_ram, ram_byte};
 ghost use Rattle.wb_cache.specs.Contents.{slots};
 ghost use Rattle.std.specs.Prelude.{true, length};
 ghost use Rattle.store_buf.specs.Pending.{pending};

@@ -7,7 +7,7 @@ use Rattle.std.specs.Option.{option_map}
 use Rattle.std.proofs.Math.ListN.{get_or-eq_default}
 use Rattle.std.proofs.lemmas.Bool.{cases_lt, true≢false}
 use Rattle.std.proofs.lemmas.List.Elements.{All-get_or}
-use Rattle.elf_load.specs.Image.{in_ram, word_in_ram}
+use Rattle.elf_load.specs.Image.{in_ram, word_in_ram, ram_byte}
 use Rattle.elf_load.proofs.InRam.{in_ram-word}
 use Rattle.rv_isa.specs.Instruction.{given}
 use Rattle.rv_table.specs.Accesses.{accesses, byte_of, lane_mask, load_size, loaded}
@@ -21,7 +21,6 @@ use Rattle.store_buf.specs.Pending.{pending}
 use Rattle.store_buf.specs.declared.cover.Cover.{Cover}
 use Rattle.store_buf.specs.declared.cover.Cover.TheVariants.{Full, Part, None as Uncovered}
 use Rattle.wb_cache.specs.Access.{found, word_at, word_of}
-use Rattle.wb_cache.specs.Changes.{ram_byte}
 use Rattle.wb_cache.specs.Contents.{Contents, no_slot, slot_at, slot_of, slots}
 use Rattle.wb_cache.specs.Lookup.{set_of, way_of}
 use Rattle.wb_cache.proofs.Lanes.{lane-word_at}

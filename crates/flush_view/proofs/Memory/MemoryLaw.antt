@@ -2,7 +2,7 @@
 use Rattle.std.proofs.Common.{◌≡◌, ℕ, ◌/◌, Bool, true, false, List, refl, sym, ap, ◌∙◌}
 use Rattle.std.proofs.lemmas.Bool.{true≢false}
 use Rattle.bit_field.specs.declared.shapes.Shape.{Shape}
-use Rattle.elf_load.specs.Image.{LoadedImage, IsImage, in_ram, word_in_ram}
+use Rattle.elf_load.specs.Image.{LoadedImage, IsImage, in_ram, word_in_ram, ram_byte}
 use Rattle.elf_load.proofs.InRam.{in_ram-word}
 use Rattle.rv_isa.specs.Instruction.{given, memory_after as memory_by}
 use Rattle.rv_table.specs.Accesses.{accesses, store_size, stored}
@@ -11,7 +11,6 @@ use Rattle.rv_table.specs.declared.action.Action.TheVariants.{Nothing, Writes, L
 use Rattle.rv_table.specs.declared.operation.StoreKind.{StoreKind}
 use Rattle.store_buf.specs.Entry.{Entry}
 use Rattle.store_buf.specs.Pending.{pending}
-use Rattle.wb_cache.specs.Changes.{ram_byte}
 use Rattle.wb_cache.specs.Contents.{Contents, slots}
 use Rattle.cyc_machine.specs.Cycle.{action_in_m, cycle, cycled, move, served_m}
 use Rattle.cyc_machine.specs.Memory.{cache_after, kept_stores, load_client, memory_after, store_client, stores_after, word_read}

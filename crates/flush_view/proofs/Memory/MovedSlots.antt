@@ -1,9 +1,8 @@
 -- A move of the port as a change of slots and of main memory, of the state's lists.
 use Rattle.std.proofs.Common.{◌≡◌, ℕ, ◌/◌, ◌%◌, List, length, arith, refl, sym, ap, ◌∙◌}
 use Rattle.std.specs.Prelude.{Option, Some, None}
-use Rattle.elf_load.specs.Image.{LoadedImage, IsImage}
+use Rattle.elf_load.specs.Image.{LoadedImage, IsImage, ram_byte}
 use Rattle.store_buf.specs.Entry.{Entry}
-use Rattle.wb_cache.specs.Changes.{ram_byte}
 use Rattle.wb_cache.specs.Contents.{Contents, IsSized, slots}
 use Rattle.wb_cache.specs.Access.{found, on_hit, put, read, written as written_word}
 use Rattle.wb_cache.specs.Refill.{filled as filled_contents, refilled}

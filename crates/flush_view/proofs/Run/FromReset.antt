@@ -5,10 +5,10 @@ use Rattle.std.proofs.Math.Path.{fun_ext}
 use Rattle.std.proofs.lemmas.List.Elements.{All-nil}
 use Rattle.bit_field.specs.Shapes.{IsShape}
 use Rattle.bit_field.specs.declared.shapes.Shape.{Shape}
-use Rattle.elf_load.specs.Image.{LoadedImage, IsImage}
+use Rattle.elf_load.specs.Image.{LoadedImage, IsImage, ram_byte}
 use Rattle.rv_table.specs.declared.action.Action.TheVariants.{Nothing}
 use Rattle.rv_isa.specs.Instruction.{State as Arch, Log, logged}
-use Rattle.rv_isa.specs.Runs.{after, loaded_byte, reset as started}
+use Rattle.rv_isa.specs.Runs.{after, reset as started}
 use Rattle.rv_isa.proofs.RunSteps.{after-next}
 use Rattle.pipe_latch.proofs.Latches.{action_of-no_executed}
 use Rattle.inst_buf.specs.Buffer.{entries, packed}
@@ -81,7 +81,7 @@ followed-cycle trace s later log e x steps k h f =
 
 -- ---- reset
 
-latched-reset : (image : LoadedImage) (shape : Shape) (clocks : List ℕ) (registers memory : ℕ → ℕ) → registers ≡ (λ r. 0) → memory ≡ loaded_byte image
+latched-reset : (image : LoadedImage) (shape : Shape) (clocks : List ℕ) (registers memory : ℕ → ℕ) → registers ≡ (λ r. 0) → memory ≡ ram_byte image image.ram
     → Followed (trace_at image clocks) (record (piped (reset image shape)) { registers = registers; m = Nothing }) memory clocks
     (record { output = []; actions = [] }) 0 0
 unfolding reset after started
