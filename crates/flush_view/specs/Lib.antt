@@ -2,6 +2,7 @@ pub mod Avoids
 pub mod Coherence
 pub mod Flush
 pub mod FlushLaw
+pub mod FlushParts
 pub mod Ignored
 pub mod MemoryLaw
 pub mod Positions

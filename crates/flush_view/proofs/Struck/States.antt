@@ -3,11 +3,11 @@ use Rattle.std.proofs.Common.{◌≡◌, ℕ, ◌/◌, ◌%◌, ◌<◌, Bool, t
 use Rattle.std.specs.Prelude.{None}
 use Rattle.std.proofs.Math.Path.{fun_ext}
 use Rattle.bit_field.specs.declared.shapes.Shape.{Shape}
-use Rattle.elf_load.specs.Image.{in_ram}
+use Rattle.elf_load.specs.Image.{in_ram, ram_byte}
 use Rattle.predictor.specs.Tables.{Tables}
 use Rattle.store_buf.specs.Covers.{found}
 use Rattle.store_buf.specs.Pending.{pending}
-use Rattle.wb_cache.specs.Changes.{put_slot, ram_byte}
+use Rattle.wb_cache.specs.Changes.{put_slot}
 use Rattle.wb_cache.specs.Contents.{Contents, Slot, slot_at, slots}
 use Rattle.wb_cache.specs.Lookup.{holds, set_of}
 use Rattle.cyc_machine.specs.PortState.{PortState}
