@@ -11,7 +11,8 @@ use Rattle.rv_isa.specs.Instruction.{State as Arch, Log, completed, later_clocks
 use Rattle.cyc_machine.specs.Cycle.{action_in_m}
 use Rattle.cyc_machine.specs.Pipeline.{register}
 use Rattle.cyc_machine.specs.State.{State}
-use Rattle.flush_view.specs.Flush.{Item, completed_count, completed_item, completed_path, flush, is_reached, latched, path}
+use Rattle.flush_view.specs.Flush.{completed_count, completed_path, flush, latched, path}
+use Rattle.cyc_machine.specs.InFlight.{Item, completed_item, is_reached}
 use Rattle.flush_view.specs.FlushParts.{FlushPartsLaw, TakesClocks, behind, no_log}
 use Rattle.flush_view.specs.Views.{view}
 
