@@ -1,6 +1,6 @@
 -- What the flush makes of the log before it and of the clock values.
 use Rattle.std.specs.Prelude.{◌≡◌, ◌≤◌, ℕ, List, [], ◌++◌, drop}
-use Rattle.rv_isa.specs.Instruction.{State as Arch, Log}
+use Rattle.rv_isa.specs.Instruction.{Log}
 use Rattle.cyc_machine.specs.State.{State}
 use Rattle.flush_view.specs.Flush.{entries_completed, flush}
 

@@ -77,7 +77,8 @@ pub record OtherStore (s : State) (i : ℕ) (e : Pending) : Type 0 where
   pub coherent : (out : ℕ → Bool) → IsCoherent out s → IsCoherent out (with_store i e s)
   -- and the view of a byte changes only where the two stores write it differently, and no store behind slot i holds it
   pub view : (seen : ℕ → ℕ) (p : ℕ)
-      → (in_ram s.image p ≡ true → found (drop (suc i) s.stores) (p / 4) (p % 4) ≡ None → (below : ℕ) → seen (over e p below) ≡ seen (over (slot_of s.stores i) p below))
+      → (in_ram s.image p ≡ true → found (drop (suc i) s.stores) (p / 4) (p % 4) ≡ None → (below : ℕ)
+      → seen (over e p below) ≡ seen (over (slot_of s.stores i) p below))
       → seen (view (with_store i e s) p) ≡ seen (view s p)
 
 -- ---- the laws

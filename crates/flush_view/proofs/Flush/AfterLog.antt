@@ -37,7 +37,8 @@ with_action-behind xs ys (Traps cause) = append_assoc xs ys (Traps cause ∷ [])
 
 pub logged-behind : (log later : Log) (m : Action) → logged (behind log later) m ≡ behind log (logged later m)
 logged-behind log later m =
-    ap (λ (bytes : List ℕ). record { output = bytes; actions = with_action (log.actions ++ later.actions) m }) (with_byte-behind log.output later.output (byte_put m))
+    ap (λ (bytes : List ℕ). record { output = bytes; actions = with_action (log.actions ++ later.actions) m })
+    (with_byte-behind log.output later.output (byte_put m))
     ∙ ap (λ (actions : List Action). record { output = log.output ++ with_byte later.output (byte_put m); actions = actions })
     (with_action-behind log.actions later.actions m)
 

@@ -25,7 +25,6 @@ use Rattle.cyc_machine.proofs.ShapeKept.{shape-moved}
 use Rattle.cyc_machine.proofs.Tells.{Tells, tells}
 use Rattle.flush_view.proofs.Memory.Given.{served-value}
 use Rattle.flush_view.proofs.Memory.Overlay.{one_word}
-use Rattle.wb_cache.proofs.Kept.{AreBytes}
 use Rattle.cyc_machine.specs.Sizes.{IsSteady}
 use Rattle.flush_view.proofs.Memory.Ways.{Slots}
 

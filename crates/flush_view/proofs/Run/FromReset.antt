@@ -29,8 +29,8 @@ use Rattle.flush_view.proofs.Flush.MachinePipe.{piped, piped-next, waiting-after
 use Rattle.flush_view.proofs.Flush.Pipes.{Pipe}
 use Rattle.flush_view.proofs.Run.Reset.{coherent-reset, registers-reset, view-reset}
 use Rattle.flush_view.proofs.Run.Sound.{Sound, empty-sound, sound-next}
-use Rattle.cyc_machine.proofs.Sizes.Lasting.{steady-next, bytes-next, steady-reset, bytes-reset}
-use Rattle.cyc_machine.specs.Sizes.{IsSteady, HoldsBytes}
+use Rattle.cyc_machine.proofs.Sizes.Lasting.{steady-next, steady-reset}
+use Rattle.cyc_machine.specs.Sizes.{IsSteady}
 
 -- ---- what every cycle keeps, the end of the run or not
 

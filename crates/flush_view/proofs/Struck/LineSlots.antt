@@ -1,12 +1,12 @@
 -- A line slot replaced by another: what that does to coherence and to the byte that the cache and main memory give.
-use Rattle.std.proofs.Common.{◌≡◌, ◌⊎◌, inl, inr, ℕ, ◌/◌, ◌%◌, ◌<◌, Bool, true, false, arith, refl, ap, sym, ◌∙◌}
+use Rattle.std.proofs.Common.{◌≡◌, ℕ, ◌/◌, ◌%◌, ◌<◌, Bool, true, false, arith, refl, ap, sym, ◌∙◌}
 use Rattle.std.specs.Prelude.{Option, Some, None}
 use Rattle.std.proofs.lemmas.Bool.{true≢false}
 use Rattle.bit_field.specs.declared.shapes.Shape.{Shape}
 use Rattle.wb_cache.specs.Changes.{put_slot}
 use Rattle.wb_cache.specs.Contents.{Slot}
 use Rattle.wb_cache.specs.Lookup.{holds, set_of, way_of}
-use Rattle.flush_view.specs.Coherence.{Coherent, IsClean, IsSingle}
+use Rattle.flush_view.specs.Coherence.{Coherent}
 use Rattle.flush_view.specs.Struck.{Replaces}
 use Rattle.flush_view.specs.Views.{byte_in, cached}
 use Rattle.flush_view.proofs.Memory.Ways.{Here, Place, Slots, There, has, place, way-none, way-nothing, way-only, way-same, way-some}
@@ -63,7 +63,9 @@ module _ (shape : Shape) (out : ℕ → Bool) (ram : ℕ → ℕ) (cache : Slots
   pub replaced-coherent : Coherent shape out ram cache → Coherent shape out ram changed
   replaced-coherent coherent = record {
     single = λ line o v w lv lw hv hw. coherent.single line o v w lv lw (held line v o hv) (held line w o hw);
-    clean = λ line o w p lw h clean at. same_byte line w (p % 16) o h (omega arith) ∙ coherent.clean line o w p lw (held line w o h) (was_clean line w o h clean) at;
+    clean =
+        λ line o w p lw h clean at. same_byte line w (p % 16) o h (omega arith)
+        ∙ coherent.clean line o w p lw (held line w o h) (was_clean line w o h clean) at;
   }
 
   module _ (coherent : Coherent shape out ram cache) (p : ℕ) (o : out (p / 16) ≡ false) where
@@ -87,7 +89,8 @@ module _ (shape : Shape) (out : ℕ → Bool) (ram : ℕ → ℕ) (cache : Slots
                 let same : v ≡ w = coherent.single (p / 16) o v w lv lw (held (p / 16) v o f) h in
                 ap (has shape changed (p / 16)) same ∙ e
 
-    new_none : (v : ℕ) → v < shape.ways → has shape cache (p / 16) v ≡ false → (b : Bool) → has shape changed (p / 16) v ≡ b → has shape changed (p / 16) v ≡ false
+    new_none : (v : ℕ) → v < shape.ways → has shape cache (p / 16) v ≡ false → (b : Bool) → has shape changed (p / 16) v ≡ b
+        → has shape changed (p / 16) v ≡ false
     new_none v lv none true e = absurd (true≢false (sym (held (p / 16) v o e) ∙ none))
     new_none v lv none false e = e
 

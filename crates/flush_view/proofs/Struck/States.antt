@@ -1,21 +1,18 @@
 -- The laws of struck fields, over states.
-use Rattle.std.proofs.Common.{◌≡◌, ℕ, ◌/◌, ◌%◌, ◌<◌, Bool, true, false, List, refl, sym, ap, ◌∙◌}
+use Rattle.std.proofs.Common.{◌≡◌, ℕ, ◌/◌, ◌%◌, Bool, true, false, List, refl}
 use Rattle.std.specs.Prelude.{None}
-use Rattle.std.proofs.Math.Path.{fun_ext}
-use Rattle.bit_field.specs.declared.shapes.Shape.{Shape}
 use Rattle.elf_load.specs.Image.{in_ram, ram_byte}
 use Rattle.predictor.specs.Tables.{Tables}
 use Rattle.store_buf.specs.Covers.{found}
 use Rattle.store_buf.specs.Pending.{pending}
 use Rattle.wb_cache.specs.Changes.{put_slot}
 use Rattle.wb_cache.specs.Contents.{Contents, Slot, slot_at, slots}
-use Rattle.wb_cache.specs.Lookup.{holds, set_of}
 use Rattle.cyc_machine.specs.PortState.{PortState}
 use Rattle.cyc_machine.specs.State.{State}
 use Rattle.flush_view.specs.Coherence.{Coherent, IsCoherent}
 use Rattle.flush_view.specs.Flush.{flush}
 use Rattle.flush_view.specs.Struck.{IsReplaced, MeansSame, OtherBytes, Replaces, SameOutside, StruckLaws, retimed, with_cache}
-use Rattle.flush_view.specs.Views.{cached, overlaid, view}
+use Rattle.flush_view.specs.Views.{cached, view}
 use Rattle.flush_view.proofs.Memory.Ways.{Slots}
 use Rattle.flush_view.proofs.Struck.LineSlots.{other-cached, other-coherent, replaced-cached, replaced-coherent}
 use Rattle.flush_view.proofs.Struck.StoreSlots.{other-store, overlaid-seen}
@@ -62,7 +59,8 @@ other-bytes : (s : State) (contents : Contents) (set way : ℕ) (bytes : ℕ →
     → OtherBytes s contents set way bytes
 other-bytes s contents set way bytes is = record {
   coherent =
-      λ dirty out coherent. with_cache-coherent s contents (put_slot set way (record (slots s.cache set way) { bytes = bytes }) (slots s.cache)) out is.shape is.slots
+      λ dirty out coherent. with_cache-coherent s contents (put_slot set way (record (slots s.cache set way) { bytes = bytes }) (slots s.cache)) out
+      is.shape is.slots
       (other-coherent s.cache.shape (slots s.cache) set way bytes dirty out (ram_byte s.image s.memory) coherent);
   view =
       λ seen p same. with_cache-view s contents (put_slot set way (record (slots s.cache set way) { bytes = bytes }) (slots s.cache)) seen p is.shape is.slots

@@ -7,7 +7,7 @@ use Rattle.store_buf.specs.Entry.{Entry}
 use Rattle.store_buf.specs.Pending.{pending, slot_of}
 use Rattle.cyc_machine.specs.State.{State}
 use Rattle.flush_view.specs.Struck.{OtherStore, with_store}
-use Rattle.flush_view.specs.Views.{cached, over, overlaid, view}
+use Rattle.flush_view.specs.Views.{over, overlaid, view}
 use Rattle.flush_view.proofs.Memory.FourSlots.{overlaid-pending}
 use Rattle.flush_view.proofs.Memory.Overlay.{overlaid-found}
 
