@@ -194,7 +194,7 @@ impl ExMem {
         Action::Loads {
             kind,
             rd: self.rd,
-            place: self.x,
+            address: self.x,
         }
     }
 
@@ -203,7 +203,7 @@ impl ExMem {
     {
         Action::Stores {
             kind,
-            place: self.x,
+            address: self.x,
             value: self.y,
         }
     }
@@ -227,15 +227,19 @@ pub fn latch_for(action: &Action) -> ExMem
             x: value,
             ..written
         },
-        Action::Loads { kind, rd, place } => ExMem {
+        Action::Loads { kind, rd, address } => ExMem {
             kind: kind_of_load(kind),
             rd,
-            x: place,
+            x: address,
             ..written
         },
-        Action::Stores { kind, place, value } => ExMem {
+        Action::Stores {
+            kind,
+            address,
+            value,
+        } => ExMem {
             kind: kind_of_store(kind),
-            x: place,
+            x: address,
             y: value,
             ..written
         },
