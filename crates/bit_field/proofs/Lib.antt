@@ -6,4 +6,3 @@ pub mod Highest
 pub mod LayoutLaws
 pub mod Located
 pub mod Low
-pub mod Rows

@@ -1,5 +1,4 @@
 pub mod Arrays
-pub mod Fields
 pub mod Lanes
 pub mod Laws
 pub mod Layouts

@@ -15,9 +15,7 @@ mod places;
 mod shapes;
 mod strikes;
 
-pub use flips::{
-    bit_at, bytes_fit, flip_at_u8, flip_at_u32, flip_bit, flip_u8, flip_u32, words_fit,
-};
+pub use flips::{bit_at, bytes_fit, flip_at_u8, flip_at_u32, words_fit};
 pub use lanes::{has_lane, lane_byte};
 pub use layouts::{Field, field_at};
 pub use places::{Place, Structure, structure_name, structure_named};

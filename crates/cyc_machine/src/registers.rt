@@ -25,6 +25,7 @@ impl Model for ProgramCounter {
 }
 
 impl Struck for ProgramCounter {
+    ghost use Rattle.bit_field.specs.declared.shapes.TheConstants.{COUNTER_BITS};
     ghost use Rattle.cyc_machine.specs.RegisterBits as counter;
 
     ghost IsFit = { counter.IsCounterFit };
