@@ -14,7 +14,7 @@ use Rattle.pipe_latch.proofs.Latches.{action_of-no_executed}
 use Rattle.inst_buf.specs.Buffer.{entries, packed}
 use Rattle.cyc_machine.specs.Cycle.{cycle, cycled, end_in, fate, served_m, done_in}
 use Rattle.cyc_machine.specs.Pipeline.{fetched, register}
-use Rattle.cyc_machine.specs.Run.{IsRunning, clocks_below, issues_below, state_after, state_at}
+use Rattle.cyc_machine.specs.Run.{IsRunning, clocks_after, clocks_below, issues_after, issues_below, log_after, state_after, state_at}
 use Rattle.cyc_machine.specs.State.{State, reset}
 use Rattle.flush_view.specs.Coherence.{IsCoherent}
 use Rattle.flush_view.specs.Flush.{fed}
@@ -125,7 +125,7 @@ module _ (image : LoadedImage) (shape : Shape) (is : IsImage image) (fits : IsSh
   next_by : (t : ℕ) (later clocks : List ℕ) (e x : ℕ) → clocks_below image shape (suc t) ++ later ≡ clocks → left_memory image shape (suc t) ≡ e
       → left_execute image shape (suc t) ≡ x → Followed (trace_at image clocks) (piped (cycle (at t))) (view (cycle (at t))) later
       (logged (done_below image shape t) (done_in (at t))) e x → FollowedAt (suc t) later
-  unfolding state_after done_below
+  unfolding state_after log_after
   next_by t later clocks e x c f g h = rw (c, f, g) h
 
   pub steps-at : (t : ℕ) (clocks : List ℕ) → Steps (at t).image (trace_at image clocks)
@@ -133,7 +133,7 @@ module _ (image : LoadedImage) (shape : Shape) (is : IsImage image) (fits : IsSh
       subst (λ (im : LoadedImage). Steps im (trace_at image clocks)) (sym (image-kept image shape t)) (λ i h. after-next image i (started image clocks) h)
 
   pub followed-at : (t : ℕ) → IsRunning image shape t → (later : List ℕ) → FollowedAt t later
-  unfolding state_after clocks_below done_below issues_below reset
+  unfolding state_after clocks_after log_after issues_after reset
   followed-at zero running later = followed-reset image shape later
   followed-at (suc t) running later =
       next_by t later (clocks_below image shape t ++ fed (at t) later) _ _
