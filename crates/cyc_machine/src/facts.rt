@@ -1,20 +1,28 @@
 // What holds of every machine.
 
+ghost use Rattle.std.specs.Prelude.{ℕ};
+ghost use Rattle.cyc_machine.specs.Cycle.{cycle};
+ghost use Rattle.cyc_machine.specs.EventsLaw.{EventLaw, EventsLaw};
 ghost use Rattle.cyc_machine.specs.FlipLaw.{FlipsBack, FlipsNoOther, FlipsThatBit};
+ghost use Rattle.cyc_machine.specs.RunsLaw.{RunsLaw};
+ghost use Rattle.cyc_machine.specs.Sizes.{IsSteady};
+ghost use Rattle.cyc_machine.specs.State.{State};
 
 use crate::machine::Machine;
-use bit_field::Struck;
+use bit_field::{Struck, bytes_fit};
 
 impl Machine<'_> {
     ghost use Rattle.cyc_machine.specs.Facts.{IsMachine};
 
-    /// Changes nothing; says what holds of every machine: the sizes and widths of its structures, and the length of main
-    /// memory.
+    /// Changes nothing; says what holds of every machine: the sizes and widths of its structures, the length of main memory
+    /// and that it holds bytes.
     pub fn is_machine(&self)
         ensures { IsMachine self.now }
     {
         self.parts.image.is_image();
         self.parts.storage.cache.is_cache();
+        bytes_fit(&self.parts.storage.memory);
+        let _issued = self.parts.issued;
         self.parts.pc.fits();
         self.parts.npc.fits();
         self.parts.predictor.fits();
@@ -34,4 +42,16 @@ pub fn flip_law()
     ensures flips { FlipsThatBit }
     ensures others { FlipsNoOther }
     ensures restores { FlipsBack }
+{}
+
+/// Changes nothing; its contract is the law of runs from any state: a run goes on from where it stands.
+pub fn runs_law()
+    ensures { RunsLaw }
+{}
+
+/// Changes nothing; its contract is what the events of the cache tell, from every state that has the machine's sizes: what an
+/// event does to its slot, that nothing else changes a slot, and that the events of a run rise in cycles.
+pub fn events_law()
+    ensures cycle { (s : State) → IsSteady s → EventLaw s (cycle s) }
+    ensures runs { (n : ℕ) (s : State) → IsSteady s → EventsLaw n s }
 {}

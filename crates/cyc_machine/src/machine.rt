@@ -17,6 +17,9 @@ use std::sync::ledger::Ledger;
 use store_buf::StoreBuf;
 use wb_cache::Cache;
 
+/// Within so many cycles the instruction in EX/MEM leaves, or the run ends, whatever the structures hold.
+pub const CYCLES_PER_INSTRUCTION: u32 = 256;
+
 /// The machine: the sixteen structures that can be struck, main memory, and the numbers that go with a run.
 #[derive(Drop)]
 pub struct Machine<'i> {
@@ -40,7 +43,7 @@ impl<'i> Machine<'i> {
     ghost use Rattle.bit_field.specs.Shapes.{IsShape};
     ghost use Rattle.bit_field.specs.Shapes as shapes;
     ghost use Rattle.cyc_machine.specs.State.{reset};
-    ghost use Rattle.cyc_machine.specs.Cycle as cycles;
+    ghost use Rattle.cyc_machine.specs.Reports.{IsCycle};
 
     /// A machine of the plain shape at reset on an image.
     pub fn new(alloc: Global, image: &'i Image) -> Result<Machine<'i>, OutOfMemory>
@@ -90,12 +93,7 @@ impl<'i> Machine<'i> {
     pub fn step<L: Ledger>(&mut self, steps: &mut Steps<L>) -> CycleReport
         requires running { self.old.ended ≡ false }
         requires cycles { self.old.cycle < 2 ^ 31 }
-        ensures state { self.new ≡ cycles.cycle self.old }
-        ensures put { result.put ≡ cycles.put_in self.old }
-        ensures issued { result.issued ≡ cycles.issued_from (cycles.fate self.old) self.old.d }
-        ensures retired { result.retired ≡ cycles.retires self.old }
-        ensures event { result.event ≡ cycles.event_in self.old }
-        ensures end { result.end ≡ cycles.end_in self.old }
+        ensures cycle { IsCycle self.old self.new result }
         ensures steps { steps.new ≡ steps.old + 1 }
     {
         self.parts.step(steps)

@@ -1,7 +1,8 @@
 // The assembler's spelling of an operation.
 ghost use Rattle.std.specs.Prelude.{◌≡◌, ◌<◌, ◌∷◌, [], IfOk, codes, decimal, map, string_bytes};
 ghost use Rattle.std.specs.Fmt.{signed_decimal};
-ghost use Rattle.rv_table.specs.Texts.{HasText, at_address, joined, mnemonic, register_name, register_names, text, three, two};
+ghost use Rattle.rv_table.specs.Texts.{HasText, at_address, mnemonic, register_name, register_names, text, three, two};
+ghost use Rattle.std.specs.List.{concat};
 
 use crate::{Form, Op, form_of, has_row, operation_of, row_of};
 use std::alloc::{AllocError, Global};
@@ -55,7 +56,7 @@ fn alone(alloc: Global, name: &str) -> Result<String, OutOfMemory>
 }
 
 fn counter(alloc: Global, name: &str, rd: &str) -> Result<String, OutOfMemory>
-    ensures { IfOk result (λ t. string_bytes t ≡ joined (name.now ∷ codes " " ∷ rd.now ∷ [])) }
+    ensures { IfOk result (λ t. string_bytes t ≡ concat (name.now ∷ codes " " ∷ rd.now ∷ [])) }
 {
     Ok(format!(in alloc; "{name} {rd}")?)
 }

@@ -1,9 +1,8 @@
 -- The byte that the cache finds, else main memory's.
 use Rattle.std.proofs.Common.{◌≡◌, ℕ, ◌/◌, ◌%◌, ◌-◌, ◌<◌, ◌≤◌, true, length, arith, refl}
 use Rattle.std.specs.Prelude.{List, Option, Some, None, slice_index}
-use Rattle.elf_load.specs.Image.{LoadedImage, in_ram}
+use Rattle.elf_load.specs.Image.{LoadedImage, in_ram, ram_byte}
 use Rattle.elf_load.proofs.InRam.{in_ram-bounds}
-use Rattle.wb_cache.specs.Changes.{ram_byte}
 use Rattle.std.specs.Option.{option_map}
 use Rattle.wb_cache.specs.Access.{byte_of}
 use Rattle.wb_cache.specs.Contents.{Contents, slots}

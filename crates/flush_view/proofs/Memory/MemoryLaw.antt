@@ -2,7 +2,7 @@
 use Rattle.std.proofs.Common.{◌≡◌, ℕ, ◌/◌, Bool, true, false, List, refl, sym, ap, ◌∙◌}
 use Rattle.std.proofs.lemmas.Bool.{true≢false}
 use Rattle.bit_field.specs.declared.shapes.Shape.{Shape}
-use Rattle.elf_load.specs.Image.{LoadedImage, IsImage, in_ram, word_in_ram}
+use Rattle.elf_load.specs.Image.{LoadedImage, IsImage, in_ram, word_in_ram, ram_byte}
 use Rattle.elf_load.proofs.InRam.{in_ram-word}
 use Rattle.rv_isa.specs.Instruction.{given, memory_after as memory_by}
 use Rattle.rv_table.specs.Accesses.{accesses, store_size, stored}
@@ -11,22 +11,21 @@ use Rattle.rv_table.specs.declared.action.Action.TheVariants.{Nothing, Writes, L
 use Rattle.rv_table.specs.declared.operation.StoreKind.{StoreKind}
 use Rattle.store_buf.specs.Entry.{Entry}
 use Rattle.store_buf.specs.Pending.{pending}
-use Rattle.wb_cache.specs.Changes.{ram_byte}
 use Rattle.wb_cache.specs.Contents.{Contents, slots}
-use Rattle.cyc_machine.specs.Cycle.{action_in_m, cycle, cycled, move, served_m}
+use Rattle.cyc_machine.specs.Cycle.{action_in_m, cycle, cycled, move, served_m, done_in}
 use Rattle.cyc_machine.specs.Memory.{cache_after, kept_stores, load_client, memory_after, store_client, stores_after, word_read}
 use Rattle.cyc_machine.specs.State.{State}
 use Rattle.flush_view.specs.Coherence.{Coherent, IsCoherent}
-use Rattle.flush_view.specs.MemoryLaw.{MemoryLaw, done_in}
+use Rattle.flush_view.specs.MemoryLaw.{MemoryLaw}
 use Rattle.flush_view.specs.Views.{cached, overlaid, view}
-use Rattle.flush_view.proofs.Memory.PendingNext.{pending-after}
+use Rattle.cyc_machine.proofs.PendingNext.{pending-after}
 use Rattle.flush_view.proofs.Memory.SlotLaw.{appended-view, moved-coherent, moved-view}
-use Rattle.flush_view.proofs.Memory.MovedSlots.{moved, moved_ram, ram-moved, shape-moved, slots-moved}
-use Rattle.flush_view.proofs.Memory.Tells.{Tells, tells}
+use Rattle.flush_view.proofs.Memory.MovedSlots.{moved, moved_ram, ram-moved, slots-moved}
+use Rattle.cyc_machine.proofs.ShapeKept.{shape-moved}
+use Rattle.cyc_machine.proofs.Tells.{Tells, tells}
 use Rattle.flush_view.proofs.Memory.Given.{served-value}
 use Rattle.flush_view.proofs.Memory.Overlay.{one_word}
-use Rattle.wb_cache.proofs.Kept.{AreBytes}
-use Rattle.flush_view.proofs.Steady.Lasting.{IsSteady}
+use Rattle.cyc_machine.specs.Sizes.{IsSteady}
 use Rattle.flush_view.proofs.Memory.Ways.{Slots}
 
 -- a store outside RAM is dropped
@@ -44,7 +43,7 @@ cached-same : (shape other : Shape) (ram main : ℕ → ℕ) (cache slot : Slots
     → cached shape ram cache p ≡ cached other main slot p
 cached-same shape other ram main cache slot p e f g = rw (e, f, g) refl
 
-module _ (s : State) (is : IsSteady s) (bytes : AreBytes s.cache.bytes) where
+module _ (s : State) (is : IsSteady s) where
   abbrev stores : List Entry
   stores = pending s.stores
 
@@ -114,7 +113,7 @@ module _ (s : State) (is : IsSteady s) (bytes : AreBytes s.cache.bytes) where
       go false h = rw h (stored-outside (done_in s) p h)
 
   value-given : (served_m s).goes ≡ true → (served_m s).value ≡ given s.image (action_in_m s) (view s)
-  value-given goes = served-value s is bytes goes
+  value-given goes = served-value s is goes
 
   pub memory-law : MemoryLaw s (cycle s)
   memory-law = record { coherent = coherent-kept; seen = view-kept; value = value-given }

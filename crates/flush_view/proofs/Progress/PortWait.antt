@@ -2,11 +2,10 @@
 use Rattle.std.proofs.Common.{◌≡◌, ◌≤◌, ◌<◌, ◌+◌, ℕ, ◌/◌, Bool, true, false, List, length, arith, refl, ap, sym, ◌∙◌}
 use Rattle.std.specs.Prelude.{⊤, Option, Some, None, ◌==◌, ◌&&◌, is_none, is_some, nat_lt, pred, if◌then◌else◌}
 use Rattle.std.proofs.lemmas.Bool.Decides.{nat_tests}
-use Rattle.elf_load.specs.Image.{LoadedImage, IsImage}
+use Rattle.elf_load.specs.Image.{LoadedImage, IsImage, ram_byte}
 use Rattle.bit_field.specs.declared.shapes.Shape.{Shape}
 use Rattle.store_buf.specs.Entry.{Entry}
 use Rattle.wb_cache.specs.Access.{found}
-use Rattle.wb_cache.specs.Changes.{ram_byte}
 use Rattle.wb_cache.specs.Contents.{Contents, IsSized, slots}
 use Rattle.wb_cache.specs.Lookup.{set_of, way_of}
 use Rattle.wb_cache.specs.Refill.{way_for}
@@ -16,7 +15,8 @@ use Rattle.cyc_machine.specs.declared.port.Move.TheVariants.{Rests, Reads, Drain
 use Rattle.cyc_machine.specs.Memory.{cache_after, continues, drained_by, filled_by, move_of, owned_word, port_after, read_by, starts}
 use Rattle.cyc_machine.specs.PortState.{PortState}
 use Rattle.flush_view.proofs.Memory.Fill.{arrived-way, filled}
-use Rattle.flush_view.proofs.Memory.MovedSlots.{shape-moved, slots-moved}
+use Rattle.flush_view.proofs.Memory.MovedSlots.{slots-moved}
+use Rattle.cyc_machine.proofs.ShapeKept.{shape-moved}
 use Rattle.flush_view.proofs.Memory.Ways.{Slots}
 
 -- the word of the client that is served first

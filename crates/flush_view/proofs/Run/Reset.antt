@@ -4,9 +4,7 @@ use Rattle.std.specs.Prelude.{None, ◌==◌, replicate, slice_index, if◌then�
 use Rattle.std.proofs.Math.Path.{fun_ext}
 use Rattle.std.proofs.lemmas.Bool.{true≢false}
 use Rattle.bit_field.specs.declared.shapes.Shape.{Shape}
-use Rattle.elf_load.specs.Image.{LoadedImage, in_ram}
-use Rattle.rv_isa.specs.Runs.{loaded_byte}
-use Rattle.wb_cache.specs.Changes.{ram_byte}
+use Rattle.elf_load.specs.Image.{LoadedImage, in_ram, ram_byte}
 use Rattle.wb_cache.specs.Contents.{empty, slots}
 use Rattle.wb_cache.specs.Lookup.{holds, set_of, way_of}
 use Rattle.wb_cache.proofs.Empty.{same_everywhere, slots-empty}
@@ -35,11 +33,11 @@ cached-reset : (shape : Shape) (ram : ℕ → ℕ) (p : ℕ) → cached shape ra
 unfolding cached
 cached-reset shape ram p = rw (way-none shape (p / 16)) refl
 
-pub view-reset : (image : LoadedImage) (shape : Shape) → view (reset image shape) ≡ loaded_byte image
+pub view-reset : (image : LoadedImage) (shape : Shape) → view (reset image shape) ≡ ram_byte image image.ram
 unfolding view reset overlaid ram_byte empty
 view-reset image shape = fun_ext (λ p. go p (in_ram image p) refl)
   where
-    go : (p : ℕ) (b : Bool) → in_ram image p ≡ b → view (reset image shape) p ≡ loaded_byte image p
+    go : (p : ℕ) (b : Bool) → in_ram image p ≡ b → view (reset image shape) p ≡ ram_byte image image.ram p
     go p true h = rw h (cached-reset shape (ram_byte image image.ram) p ∙ rw h refl)
     go p false h = rw h refl
 
