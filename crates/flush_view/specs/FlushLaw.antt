@@ -36,10 +36,13 @@ moved_flush s clocks log =
 -- `next` is the state after one cycle from s; the log is what was done before.
 pub record FlushLaw (s next : State) : Type 0 where
   -- A cycle that doesn't end the run. What it is done with, and so the byte that it puts, stands in the log of the next flush.
-  pub goes : (out : ℕ → Bool) (clocks : List ℕ) (log : Log) → IsCoherent out s → AvoidsFlush out s (fed s clocks) log → end_in s ≡ None → outside out (flush next clocks (logged log (done_in s))) ≡ outside out (moved_flush s (fed s clocks) log)
+  pub goes : (out : ℕ → Bool) (clocks : List ℕ) (log : Log) → IsCoherent out s → AvoidsFlush out s (fed s clocks) log → end_in s ≡ None
+      → outside out (flush next clocks (logged log (done_in s))) ≡ outside out (moved_flush s (fed s clocks) log)
   -- a cycle that ends the run has the flush's end, and the flush puts nothing
-  pub ends : (clocks : List ℕ) (log : Log) (end : End) → end_in s ≡ Some end → ((flush s clocks log).stop ≡ Some end) × ((flush s clocks log).log.output ≡ log.output)
+  pub ends : (clocks : List ℕ) (log : Log) (end : End) → end_in s ≡ Some end
+      → ((flush s clocks log).stop ≡ Some end) × ((flush s clocks log).log.output ≡ log.output)
   -- The flush completes what EX/MEM holds and so many entries of the path.
-  pub counts : (clocks : List ℕ) (log : Log) → length (flush s clocks log).log.actions ≡ length log.actions + (if s.m.valid then 1 else 0) + entries_completed s clocks log
+  pub counts : (clocks : List ℕ) (log : Log) → length (flush s clocks log).log.actions
+      ≡ length log.actions + (if s.m.valid then 1 else 0) + entries_completed s clocks log
   -- a cycle is done with one action where an occupied EX/MEM is left, else with none
   pub leaves : (log : Log) → length (logged log (done_in s)).actions ≡ length log.actions + (if retires s then 1 else 0)

@@ -17,7 +17,8 @@ pub record EndsAfter (image : LoadedImage) (clocks : List ℕ) (n : ℕ) (end : 
 pub record RunLaw (image : LoadedImage) (shape : Shape) : Type 0 where
   -- each state, whatever clock values the cycles from t on will give
   pub facts : (t : ℕ) → IsRunning image shape t → (later : List ℕ)
-      → RunFacts (state_at image shape t) (done_below image shape t) later (trace_at image (clocks_below image shape t ++ later)) (left_memory image shape t) (left_execute image shape t)
+      → RunFacts (state_at image shape t) (done_below image shape t) later (trace_at image (clocks_below image shape t ++ later))
+      (left_memory image shape t) (left_execute image shape t)
   -- where the machine ends, the instruction set's run ends so, with the same output, after as many instructions as were retired
   pub ends : (t : ℕ) (end : End) → IsRunning image shape t → end_in (state_at image shape t) ≡ Some end
       → EndsAfter image (clocks_below image shape (suc t)) (retired_below image shape (suc t)) end (output_below image shape (suc t))

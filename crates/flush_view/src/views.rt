@@ -1,8 +1,7 @@
 // The byte that the program sees.
 ghost use Rattle.std.specs.Prelude.{◌≡◌};
 ghost use Rattle.flush_view.specs.Views as views;
-ghost use Rattle.elf_load.specs.Image.{in_ram};
-ghost use Rattle.wb_cache.specs.Changes.{ram_byte};
+ghost use Rattle.elf_load.specs.Image.{in_ram, ram_byte};
 ghost use Rattle.wb_cache.specs.Contents.{slots};
 ghost use Rattle.std.specs.Prelude.{true, length};
 ghost use Rattle.store_buf.specs.Pending.{pending};
@@ -25,7 +24,7 @@ pub fn view_byte(m: &Machine<'_>, addr: u32) -> u8
 }
 
 // The byte of the first way that holds the line, else main memory's.
-#[tactic(auto, unfolding(crate::specs::Views::cached), using(crate::proofs::Found::founds))]
+#[tactic(auto, unfolding(crate::specs::Views::cached), using(crate::proofs::Memory::FoundByte::founds))]
 fn cached_byte(m: &Machine<'_>, addr: u32) -> u8
     requires { in_ram m.now.image addr ≡ true }
     ensures { result ≡ views.cached m.now.cache.shape (ram_byte m.now.image m.now.memory) (slots m.now.cache) addr }
@@ -37,7 +36,7 @@ fn cached_byte(m: &Machine<'_>, addr: u32) -> u8
 }
 
 // Main memory's byte.
-#[tactic(auto, using(crate::proofs::Found::founds, crate::proofs::Found::inside))]
+#[tactic(auto, using(crate::proofs::Memory::FoundByte::founds, crate::proofs::Memory::FoundByte::inside))]
 fn memory_byte(m: &Machine<'_>, addr: u32) -> u8
     requires { in_ram m.now.image addr ≡ true }
     ensures { result ≡ ram_byte m.now.image m.now.memory addr }

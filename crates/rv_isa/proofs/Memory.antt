@@ -3,9 +3,9 @@ use Rattle.std.proofs.Common.{◌≡◌, ℕ, ◌+◌, ◌-◌, ◌*◌, ◌/◌
 use Rattle.std.specs.Prelude.{slice_index, Some, IsTrue}
 use Rattle.std.proofs.Math.Path.{fun_ext}
 use Rattle.std.proofs.lemmas.Bool.Decides.{nat_tests}
-use Rattle.elf_load.specs.Image.{LoadedImage, in_ram, word_in_ram}
+use Rattle.elf_load.specs.Image.{LoadedImage, in_ram, word_in_ram, ram_byte}
 use Rattle.rv_isa.proofs.Lists.{all_zero}
-use Rattle.rv_isa.specs.Architecture.{byte_stored, ram_byte, state_of}
+use Rattle.rv_isa.specs.Architecture.{byte_stored, state_of}
 use Rattle.rv_isa.specs.Effects.{IsInRam, with_store}
 use Rattle.rv_isa.specs.Runs.{reset}
 use Rattle.rv_table.specs.Accesses.{byte_of, loaded, word_at, word_of_bytes}
@@ -24,7 +24,7 @@ place_in_ram image place size within =
 
 -- a value stored at such a place
 pub stored_ram : (image : LoadedImage) (bytes old : List ℕ) (base place size value : ℕ) → base ≡ image.base → IsInRam image place size → ((p : ℕ) → slice_index bytes p ≡ byte_stored (place - base) size value old p) → ram_byte image bytes ≡ with_store (Some (place, size, value)) (ram_byte image old)
-unfolding in_ram
+unfolding in_ram ram_byte
 stored_ram image bytes old base place size value e within stored =
     let at = place_in_ram image place size within in
     fun_ext (λ p. grind (arith, nat_tests, at, stored (p - image.base)))
@@ -36,7 +36,7 @@ at_reset image registers memory clocks left entry r m p c = rw (r, m, p, c, all_
 
 -- the word of RAM at a byte address
 pub word_there : (image : LoadedImage) (bytes : List ℕ) (place at : ℕ) → word_in_ram image (place / 4) ≡ true → at ≡ place / 4 * 4 - image.base → word_of_bytes (λ i. slice_index bytes (at + i)) ≡ word_at place (ram_byte image bytes)
-unfolding word_in_ram in_ram
+unfolding word_in_ram in_ram ram_byte
 word_there image bytes place at h e = grind (arith, nat_tests)
 
 pub word_fits : (image : LoadedImage) (memory : List ℕ) (place : ℕ) → word_in_ram image (place / 4) ≡ true → length memory ≡ length image.ram → (image.base ≤ place / 4 * 4) × (place / 4 * 4 + 4 ≤ image.base + length memory)

@@ -1,6 +1,6 @@
 -- The architectural run of an image: its states, and what is recorded of it.
-use Rattle.std.specs.Prelude.{◌≡◌, ℕ, ◌-◌, ◌/◌, ◌<◌, ◌≤◌, is_none, List, [], length, Some, None, Result, Ok, Err, zero, suc, if◌then◌else◌, slice_get, slice_index_or}
-use Rattle.elf_load.specs.Image.{LoadedImage, IsImage, in_ram}
+use Rattle.std.specs.Prelude.{◌≡◌, ℕ, ◌/◌, ◌<◌, ◌≤◌, is_none, List, [], length, Some, None, Result, Ok, Err, zero, suc, if◌then◌else◌, slice_get}
+use Rattle.elf_load.specs.Image.{LoadedImage, IsImage, ram_byte}
 use Rattle.avf_base.specs.declared.end.End.{End}
 use Rattle.rv_isa.specs.Effects.{retired_at}
 use Rattle.rv_isa.specs.Instruction.{State, instruction}
@@ -8,16 +8,12 @@ use Rattle.rv_isa.specs.declared.effect.Retired.{Retired}
 use Rattle.rv_isa.specs.declared.error.IsaError.{IsaError}
 use Rattle.rv_isa.specs.declared.error.IsaError.TheVariants.{NoEnd, OutOfMemory}
 
--- byte p of RAM as loaded, 0 outside RAM
-abbrev pub loaded_byte : LoadedImage → ℕ → ℕ
-loaded_byte image p = if in_ram image p then slice_index_or image.ram (p - image.base) 0 else 0
-
 -- before the first instruction, with the clock values that code 50 takes
 unfoldable pub reset : LoadedImage → List ℕ → State
 reset image clocks =
     record {
       registers = λ r. 0;
-      memory = loaded_byte image;
+      memory = ram_byte image image.ram;
       pc = image.entry / 4;
       count = 0;
       clocks = clocks;

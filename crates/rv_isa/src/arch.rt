@@ -1,8 +1,8 @@
 // The architectural state of an image's run.
 ghost use Rattle.std.specs.Prelude.{◌≡◌, ℕ, ◌+◌, ◌*◌, ◌<◌, ◌≤◌, ◌/◌, ◌&&◌, IfOk, IsTrue, [], drop, length, replicate, slice_index, if◌then◌else◌};
 ghost use Rattle.std.specs.Option.{ForSome};
-ghost use Rattle.elf_load.specs.Image.{any_executable, executable, word_in_ram};
-ghost use Rattle.rv_isa.specs.Architecture.{byte_stored, ram_byte};
+ghost use Rattle.elf_load.specs.Image.{any_executable, executable, word_in_ram, ram_byte};
+ghost use Rattle.rv_isa.specs.Architecture.{byte_stored};
 ghost use Rattle.rv_isa.specs.Effects.{CanCommit, IsInRam, IsStep, committed, effect_by, effect_of, retired_at, with_store, with_write, write_of};
 ghost use Rattle.rv_isa.specs.Instruction.{first_clock, later_clocks, op_at};
 ghost use Rattle.rv_isa.specs.Runs.{reset};
@@ -99,7 +99,7 @@ impl<'i> Arch<'i> {
     }
 
     /// The byte at a byte address, 0 outside RAM.
-    #[tactic(auto, unfolding(elf_load::specs::Image::in_ram))]
+    #[tactic(auto, unfolding(elf_load::specs::Image::in_ram, elf_load::specs::Image::ram_byte))]
     pub fn byte(&self, addr: u32) -> u8
         ensures { result ≡ (state_of self.now).memory addr }
     {
@@ -229,7 +229,7 @@ impl<'i> Arch<'i> {
     }
 
     /// The word of RAM that holds a byte address.
-    #[tactic(auto, using(crate::proofs::Memory::words))]
+    #[tactic(auto, using(crate::proofs::Memory::words), unfolding(elf_load::specs::Image::ram_byte))]
     fn word(&self, place: u32) -> u32
         requires { IsTrue (word_in_ram self.now.image (place / 4)) }
         ensures word { result ≡ word_at place (state_of self.now).memory }

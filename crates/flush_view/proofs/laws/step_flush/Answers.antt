@@ -2,11 +2,11 @@ use Rattle.std.proofs.Common.{subst, sym}
 use Rattle.flush_view.specs.FlushLaw.{FlushLaw}
 use Rattle.flush_view.specs.Ignored.{LockstepLaw}
 use Rattle.flush_view.specs.MemoryLaw.{MemoryLaw}
-use Rattle.flush_view.proofs.Flushes.{flush-law}
-use Rattle.flush_view.proofs.Lockstep.{lockstep-law}
-use Rattle.flush_view.proofs.Memory.{memory-law}
-use Rattle.flush_view.proofs.Progress.{progress}
-use Rattle.flush_view.proofs.Steady.{machine-steady}
+use Rattle.flush_view.proofs.Flush.FlushLaw.{flush-law}
+use Rattle.flush_view.proofs.Lockstep.LockstepLaw.{lockstep-law}
+use Rattle.flush_view.proofs.Memory.MemoryLaw.{memory-law}
+use Rattle.flush_view.proofs.Progress.ProgressLaw.{progress}
+use Rattle.flush_view.proofs.Steady.Lasting.{machine-steady}
 use Rattle.flush_view.proofs.laws.step_flush.Goals as goal
 
 pub returns-clause-memory : goal.returns-clause-memory

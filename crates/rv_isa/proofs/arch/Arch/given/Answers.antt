@@ -1,7 +1,6 @@
 use Rattle.std.proofs.Common.{◌≡◌, ◌/◌, true, ap, sym, ◌∙◌}
-use Rattle.elf_load.specs.Image.{word_in_ram}
+use Rattle.elf_load.specs.Image.{word_in_ram, ram_byte}
 use Rattle.rv_isa.proofs.Memory.{given_load}
-use Rattle.rv_isa.specs.Architecture.{ram_byte}
 use Rattle.rv_isa.proofs.arch.Arch.given.Goals as goal
 
 pub returns-in-Loads : goal.returns-in-Loads
