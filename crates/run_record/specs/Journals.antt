@@ -7,7 +7,7 @@ use Rattle.elf_load.specs.Image.{LoadedImage}
 use Rattle.bit_field.specs.declared.shapes.Shape.{Shape}
 use Rattle.wb_cache.specs.declared.event.CacheEvent.{CacheEvent}
 use Rattle.cyc_machine.specs.Cycle.{event_in, put_in, retires}
-use Rattle.cyc_machine.specs.Run.{issues, issues_clock, with_one}
+use Rattle.cyc_machine.specs.Run.{cycle_if, issues, issues_clock, with_one}
 use Rattle.cyc_machine.specs.State.{State}
 use Rattle.run_record.specs.Run.{RecordedRun}
 use Rattle.run_record.specs.declared.journal.Journal.{Journal}
@@ -41,8 +41,8 @@ entry_of s =
     record {
       put = put_in s;
       event = event_in s;
-      issued = then_some (issues s) s.cycle;
-      clocked = then_some (issues_clock s) s.cycle;
+      issued = cycle_if (issues s) s;
+      clocked = cycle_if (issues_clock s) s;
       retired = retires s;
     }
 
