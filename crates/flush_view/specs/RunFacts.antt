@@ -11,7 +11,7 @@ use Rattle.cyc_machine.specs.Cycle.{action_in_m}
 use Rattle.cyc_machine.specs.Memory.{load_client, owned_word, store_client}
 use Rattle.cyc_machine.specs.Pipeline.{fetched, register}
 use Rattle.cyc_machine.specs.State.{State}
-use Rattle.flush_view.specs.Avoids.{next_action}
+use Rattle.rv_isa.specs.Accesses.{next_action}
 use Rattle.flush_view.specs.Coherence.{IsCoherent}
 use Rattle.flush_view.specs.Flush.{flush, latched, operand_held, path}
 use Rattle.flush_view.specs.Positions.{is_latch_on_path, on_path}

@@ -141,7 +141,7 @@ impl ExMem {
         Action::Loads {
             kind,
             rd: self.rd,
-            place: self.x,
+            address: self.x,
         }
     }
 
@@ -150,7 +150,7 @@ impl ExMem {
     {
         Action::Stores {
             kind,
-            place: self.x,
+            address: self.x,
             value: self.y,
         }
     }
@@ -174,15 +174,19 @@ pub fn latch_for(action: &Action) -> ExMem
             x: value,
             ..written
         },
-        Action::Loads { kind, rd, place } => ExMem {
+        Action::Loads { kind, rd, address } => ExMem {
             kind: kind_of_load(kind),
             rd,
-            x: place,
+            x: address,
             ..written
         },
-        Action::Stores { kind, place, value } => ExMem {
+        Action::Stores {
+            kind,
+            address,
+            value,
+        } => ExMem {
             kind: kind_of_store(kind),
-            x: place,
+            x: address,
             y: value,
             ..written
         },

@@ -13,7 +13,8 @@ use Rattle.inst_buf.specs.Buffer.{entries}
 use Rattle.cyc_machine.specs.Cycle.{action_in_m, cycle, end_in, fate}
 use Rattle.cyc_machine.specs.Pipeline.{register}
 use Rattle.cyc_machine.specs.State.{State}
-use Rattle.flush_view.specs.Avoids.{Avoids, AvoidsAll, AvoidsFlush, masked, next_action, outside}
+use Rattle.flush_view.specs.Avoids.{Avoids, AvoidsAll, AvoidsFlush, masked, outside}
+use Rattle.rv_isa.specs.Accesses.{next_action}
 use Rattle.flush_view.specs.Coherence.{IsCoherent}
 use Rattle.flush_view.specs.Flush.{Item, completed_item, completed_path, entries_completed, fed, flush, is_reached, item_of_entry, latched, path, path_of}
 use Rattle.flush_view.specs.FlushLaw.{FlushLaw, moved_flush, moves_on, remaining}

@@ -8,7 +8,7 @@ use Rattle.bit_field.specs.declared.shapes.Shape.{Shape}
 use Rattle.elf_load.specs.Image.{LoadedImage, IsImage, ram_byte}
 use Rattle.rv_table.specs.declared.action.Action.TheVariants.{Nothing}
 use Rattle.rv_isa.specs.Instruction.{State as Arch, Log, logged}
-use Rattle.rv_isa.specs.Runs.{after, reset as started}
+use Rattle.rv_isa.specs.Runs.{after, reset as started, trace_at}
 use Rattle.rv_isa.proofs.RunSteps.{after-next}
 use Rattle.pipe_latch.proofs.Latches.{action_of-no_executed}
 use Rattle.inst_buf.specs.Buffer.{entries, packed}
@@ -19,7 +19,7 @@ use Rattle.cyc_machine.specs.State.{State, reset}
 use Rattle.flush_view.specs.Coherence.{IsCoherent}
 use Rattle.flush_view.specs.Flush.{fed}
 use Rattle.flush_view.specs.MemoryLaw.{MemoryLaw, done_in}
-use Rattle.flush_view.specs.Positions.{done_below, left_execute, left_memory, trace_at}
+use Rattle.flush_view.specs.Positions.{done_below, left_execute, left_memory}
 use Rattle.flush_view.specs.RunFacts.{no_line}
 use Rattle.flush_view.specs.Views.{view}
 use Rattle.flush_view.proofs.Run.RunCounts.{clocks-next, image-kept, left-next, memory-next}
