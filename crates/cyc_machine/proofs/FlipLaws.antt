@@ -1,7 +1,6 @@
 -- A flip at a place, structure by structure.
 use Rattle.std.proofs.Common.{◌≡◌, ◌≢◌, ℕ, ◌-◌, ◌<◌, refl, ap}
 use Rattle.bit_field.specs.Shapes.{bits_in}
-use Rattle.bit_field.specs.declared.places.Place.{Place}
 use Rattle.bit_field.specs.declared.places.Structure.{Structure}
 use Rattle.bit_field.specs.declared.places.Structure.TheVariants.{Pc, Npc, Bht, Btb, Ib, IdEx, ExMem, MemWb, Rf, Sb, Port, CData, CTag, CValid, CDirty, CLru}
 use Rattle.inst_buf.specs.BufferBits as ib

@@ -5,8 +5,9 @@ use Rattle.bit_field.specs.declared.shapes.Shape.{Shape}
 use Rattle.rv_isa.specs.Instruction.{State as Arch, Log, logged}
 use Rattle.cyc_machine.specs.Run.{issues_below, state_at}
 use Rattle.cyc_machine.specs.State.{State}
-use Rattle.flush_view.specs.Flush.{Item, path}
-use Rattle.flush_view.specs.MemoryLaw.{done_in}
+use Rattle.flush_view.specs.Flush.{path}
+use Rattle.cyc_machine.specs.InFlight.{Item}
+use Rattle.cyc_machine.specs.Cycle.{done_in}
 
 -- x(t): how many instructions have left EX before cycle t
 abbrev pub left_execute : LoadedImage → Shape → ℕ → ℕ

@@ -24,8 +24,9 @@ use Rattle.flush_view.proofs.Memory.Fill.{filled, written}
 use Rattle.flush_view.proofs.Lockstep.Lines.{found-valid, found-whole, full-read, read_slots, slots-same}
 use Rattle.flush_view.proofs.Lockstep.PortMoves.{masked_move}
 use Rattle.flush_view.proofs.Lockstep.Stores.{masked-lane, masked_entry}
-use Rattle.flush_view.proofs.Memory.MovedSlots.{moved, moved_ram, ram-moved, shape-moved, slots-moved}
-use Rattle.flush_view.proofs.Memory.Tells.{Tells}
+use Rattle.flush_view.proofs.Memory.MovedSlots.{moved, moved_ram, ram-moved, slots-moved}
+use Rattle.cyc_machine.proofs.ShapeKept.{shape-moved}
+use Rattle.cyc_machine.proofs.Tells.{Tells}
 use Rattle.flush_view.proofs.Memory.Ways.{Slots}
 
 -- ---- slots
