@@ -1,11 +1,11 @@
 -- A record within a budget tells of the instruction set's run.
-use Rattle.std.proofs.Common.{◌≡◌, ℕ, Some, sym, subst}
+use Rattle.std.proofs.Common.{ℕ, sym, subst}
 use Rattle.bit_field.specs.Shapes.{IsShape}
 use Rattle.bit_field.specs.declared.shapes.Shape.{Shape}
 use Rattle.elf_load.specs.Image.{LoadedImage, IsImage}
 use Rattle.flush_view.proofs.Run.RunLaw.{run-law}
 use Rattle.run_record.specs.Run.{RecordedRun}
-use Rattle.run_record.specs.Within.{IsRecordOf, record_within}
+use Rattle.run_record.specs.Within.{IsRecordOf}
 use Rattle.run_record.proofs.Within.{within_is_record}
 use Rattle.run_log.proofs.Programs.{program}
 use Rattle.avf_tool.specs.Programs.{IsProgram, ProgramLaw}

@@ -1,12 +1,12 @@
 -- The trace of a recorded run has the instructions that the record speaks of.
-use Rattle.std.proofs.Common.{◌≡◌, ◌⊎◌, ℕ, zero, suc, ◌+◌, ◌<◌, ◌≤◌, List, [], ◌∷◌, length, map, None, Some, refl, sym, ap, ◌∙◌, subst, arith, inl, inr, add-one}
+use Rattle.std.proofs.Common.{◌≡◌, ℕ, suc, ◌+◌, ◌<◌, List, [], ◌∷◌, length, map, None, Some, refl, sym, ap, ◌∙◌, arith, inl, inr}
 use Rattle.std.specs.Prelude.{◌≢◌, Option, slice_get}
 use Rattle.std.specs.List.{range_with_len}
+use Rattle.std.proofs.lemmas.Bool.{cases_order}
 use Rattle.avf_base.specs.declared.end.End.{End}
 use Rattle.elf_load.specs.Image.{LoadedImage}
 use Rattle.rv_isa.specs.Effects.{retired_at}
 use Rattle.rv_isa.specs.Runs.{IsTrace, ProgramTrace, trace_at}
-use Rattle.flush_view.specs.RunLaw.{EndsAfter}
 use Rattle.run_record.specs.Run.{RecordedRun}
 use Rattle.avf_tool.specs.Programs.{IsProgram, instructions_of}
 
@@ -27,26 +27,23 @@ map_range f (x ∷ xs) from h =
     let at : from + 0 ≡ from = omega arith in
     let head : f from ≡ x = sym (some_is x (f from) (h 0 (omega arith) ∙ ap (λ i. Some (f i)) at)) in
     let next : (i : ℕ) → i < length xs → slice_get xs i ≡ Some (f (from + 1 + i)) = λ i l.
-        h (suc i) (omega (arith, l)) ∙ ap (λ k. Some (f k)) (omega arith) in
+    h (suc i) (omega (arith, l)) ∙ ap (λ k. Some (f k)) (omega arith) in
     rw (head, map_range f xs (from + 1) next) refl
-
-order : (k n : ℕ) → (k < n) ⊎ ((n < k) ⊎ (k ≡ n))
-order k n = grind arith
 
 -- a run has one length
 one_length : (image : LoadedImage) (clocks : List ℕ) (k n : ℕ) (last end : End) → ((i : ℕ) → i < k → (trace_at image clocks i).stop ≡ None) → (trace_at image clocks k).stop ≡ Some last
     → ((i : ℕ) → i < n → (trace_at image clocks i).stop ≡ None) → (trace_at image clocks n).stop ≡ Some end → k ≡ n
 one_length image clocks k n last end running ends going over =
-    elim (order k n) [
-      | inl before ↦ absurd (some_end (trace_at image clocks k).stop last ends (going k before))
-      | inr (inl behind) ↦ absurd (some_end (trace_at image clocks n).stop end over (running n behind))
-      | inr (inr same) ↦ same
+    elim (cases_order k n) [
+      | inl same ↦ same
+      | inr (inl before) ↦ absurd (some_end (trace_at image clocks k).stop last ends (going k before))
+      | inr (inr behind) ↦ absurd (some_end (trace_at image clocks n).stop end over (running n behind))
     ]
 
 pub traced : (run : RecordedRun) (trace : ProgramTrace) → IsProgram run → IsTrace run.image run.clocks trace → instructions_of run ≡ trace.entries
 traced run trace is h =
     let n : length trace.entries ≡ run.instructions =
-        one_length run.image run.clocks (length trace.entries) run.instructions trace.end run.end h.running h.ends is.running is.ends in
+    one_length run.image run.clocks (length trace.entries) run.instructions trace.end run.end h.running h.ends is.running is.ends in
     ap (λ k. map (λ i. retired_at run.image (trace_at run.image run.clocks i)) (range_with_len 0 k)) (sym n)
     ∙ map_range (λ i. retired_at run.image (trace_at run.image run.clocks i)) trace.entries 0
-      (λ i l. h.retired i l ∙ ap (λ k. Some (retired_at run.image (trace_at run.image run.clocks k))) (omega arith))
+    (λ i l. h.retired i l ∙ ap (λ k. Some (retired_at run.image (trace_at run.image run.clocks k))) (omega arith))

@@ -1,5 +1,5 @@
 -- The instruction set's run beside a recorded run.
-use Rattle.std.specs.Prelude.{◌≡◌, ℕ, List, map, None, Some}
+use Rattle.std.specs.Prelude.{◌≡◌, ℕ, List, map, Some}
 use Rattle.std.specs.List.{range_with_len}
 use Rattle.bit_field.specs.Shapes.{IsShape}
 use Rattle.bit_field.specs.declared.shapes.Shape.{Shape}

@@ -50,12 +50,7 @@ fn task_named(name: &str, words: &[String]) -> Option<Task>
     }
 }
 
-fn image_command<'a>(
-    shape: Shape,
-    image: &'a str,
-    budget: &str,
-    task: Task,
-) -> Option<Command<'a>>
+fn image_command<'a>(shape: Shape, image: &'a str, budget: &str, task: Task) -> Option<Command<'a>>
     requires { IsShape shape }
     ensures is { MatchOption result (asked.image_job shape image.now budget.now task ≡ None) (λ c. asked.image_job shape image.now budget.now task ≡ Some (job_of c)) }
     ensures does { IfSome result (λ c. IsDoable (job_of c)) }

@@ -77,8 +77,8 @@ fn answer<L: Ledger, M: Ledger>(
     ensures { IsText (answer (job_of command.now) contents.now) result }
 {
     let image = load_image(alloc, contents, &command.shape)?;
-    let run = run_image(alloc, &image, &command.shape, command.budget, steps)?;
-    task_answer(alloc, command.task, &run, applies)
+    let recorded = run_image(alloc, &image, &command.shape, command.budget, steps)?;
+    task_answer(alloc, command.task, &recorded, applies)
 }
 
 /// Performs a command: its text, or why there is none.

@@ -51,13 +51,7 @@ pub fn read_image<H: Shelf>(alloc: Global, shelf: &mut H, name: &str) -> Result<
     ensures keeps { (n : List ℕ) → H.holds shelf.new n ≡ H.holds shelf.old n }
     ensures later { H.faults shelf.old ≤ H.faults shelf.new }
 {
-    read_limited(
-        alloc,
-        shelf,
-        name,
-        IMAGE_LIMIT,
-        Refusal::BadImage(TOO_LONG),
-    )
+    read_limited(alloc, shelf, name, IMAGE_LIMIT, Refusal::BadImage(TOO_LONG))
 }
 
 /// The image that a file's bytes mean on a machine of this shape, or the first reason to refuse them.
