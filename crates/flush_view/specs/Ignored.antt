@@ -4,8 +4,8 @@ use Rattle.std.specs.Prelude.{◌≡◌, ℕ, ◌==◌, [], ◌∷◌, map, cond
 use Rattle.std.specs.Int.{w32, from_le_bytes}
 use Rattle.inst_buf.specs.Entry.{Entry as Fetched, no_entry as no_fetched}
 use Rattle.pipe_latch.specs.Latches.{DecodedLatch, ExecutedLatch, ResultLatch, no_decoded, no_executed, no_result}
-use Rattle.store_buf.specs.Covers.{lane_byte}
-use Rattle.store_buf.specs.Entry.{Entry as Pending, has_lane, no_entry as no_pending}
+use Rattle.bit_field.specs.Lanes.{has_lane, lane_byte}
+use Rattle.store_buf.specs.Entry.{Entry as Pending, no_entry as no_pending}
 use Rattle.wb_cache.specs.Contents.{Contents, Slot, no_slot, slots}
 use Rattle.cyc_machine.specs.Cycle.{cycle}
 use Rattle.cyc_machine.specs.Facts.{IsMachine}

@@ -41,7 +41,6 @@ impl Model for ExMem {
 
 impl Struck for ExMem {
     ghost use Rattle.pipe_latch.specs.ExecutedBits as executed_bits;
-    ghost use Rattle.pipe_latch.specs.ExecutedLaws as executed_laws;
 
     ghost IsFit = { executed_bits.IsFit };
 
@@ -50,8 +49,6 @@ impl Struck for ExMem {
     ghost bit_of = { executed_bits.bit_of };
 
     ghost flipped = { executed_bits.flipped };
-
-    ghost laws = { executed_laws.laws };
 
     fn bits(&self) -> u32 {
         79
@@ -86,6 +83,8 @@ impl Struck for ExMem {
         let _x = self.x;
         let _y = self.y;
     }
+
+    fn laws(&self) {}
 }
 
 impl ExMem {

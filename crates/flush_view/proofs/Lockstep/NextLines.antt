@@ -5,8 +5,8 @@ use Rattle.std.proofs.Math.Path.{fun_ext}
 use Rattle.std.proofs.lemmas.List.{ext_get_or}
 use Rattle.bit_field.specs.declared.shapes.Shape.{Shape}
 use Rattle.elf_load.specs.Image.{LoadedImage, IsImage, in_ram, ram_byte}
-use Rattle.store_buf.specs.Entry.{Entry, has_lane}
-use Rattle.store_buf.specs.Covers.{lane_byte}
+use Rattle.bit_field.specs.Lanes.{has_lane, lane_byte}
+use Rattle.store_buf.specs.Entry.{Entry}
 use Rattle.wb_cache.specs.Access.{put}
 use Rattle.wb_cache.specs.Changes.{filled_slot, put_slot, slot_written_back, written_slot}
 use Rattle.wb_cache.specs.Contents.{Contents, IsSized, Slot, slots}

@@ -7,8 +7,9 @@ use Rattle.elf_load.specs.Image.{LoadedImage, word_in_ram}
 use Rattle.rv_table.specs.Accesses.{lane_mask, load_size}
 use Rattle.rv_table.specs.declared.action.Action.{Action}
 use Rattle.rv_table.specs.declared.action.Action.TheVariants.{Nothing, Writes, Loads, Stores, Puts, Exits, Traps}
-use Rattle.store_buf.specs.Covers.{all_found, byte_found, covered, found, held, lane_byte, none_found, word_found}
-use Rattle.store_buf.specs.Entry.{Entry, has_lane}
+use Rattle.bit_field.specs.Lanes.{has_lane, lane_byte}
+use Rattle.store_buf.specs.Covers.{all_found, byte_found, covered, found, held, none_found, word_found}
+use Rattle.store_buf.specs.Entry.{Entry}
 use Rattle.store_buf.specs.Pending.{pending}
 use Rattle.wb_cache.specs.Access.{word_at}
 use Rattle.wb_cache.proofs.Lanes.{lane-word_at}
