@@ -12,7 +12,7 @@ use Rattle.rv_isa.proofs.RunSteps.{after-stays}
 use Rattle.cyc_machine.specs.Cycle.{end_in}
 use Rattle.cyc_machine.specs.Run.{IsRunning, clocks_below, output_below, retired_below, state_at}
 use Rattle.flush_view.specs.RunLaw.{EndsAfter}
-use Rattle.flush_view.proofs.RunLaw.{run-law}
+use Rattle.flush_view.proofs.Run.RunLaw.{run-law}
 use Rattle.run_log.proofs.Keeping.{running_more}
 use Rattle.run_log.proofs.Programs.{few_below}
 use Rattle.avf_tool.specs.Programs.{ProgramsEnd}

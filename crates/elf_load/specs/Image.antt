@@ -13,6 +13,10 @@ pub record LoadedImage : Type 0 where
 unfoldable pub in_ram : LoadedImage → ℕ → Bool
 in_ram image a = nat_le image.base a && nat_lt a (image.base + length image.ram)
 
+-- main memory by byte address, from the list of RAM's bytes; 0 outside RAM
+unfoldable pub ram_byte : LoadedImage → List ℕ → ℕ → ℕ
+ram_byte image memory p = if in_ram image p then slice_index memory (p - image.base) else 0
+
 -- whether the byte at this byte address lies in RAM and an executable segment holds it
 unfoldable pub executable : LoadedImage → ℕ → Bool
 executable image a = in_ram image a && slice_index_or image.code (a - image.base) false

@@ -1,7 +1,7 @@
 -- Coherence of the cache, but for the lines of a set X. X is given by a test on lines: `out line` says that it is in X.
+use Rattle.elf_load.specs.Image.{ram_byte}
 use Rattle.std.specs.Prelude.{◌≡◌, ℕ, ◌/◌, ◌%◌, ◌<◌, Bool, true, false}
 use Rattle.bit_field.specs.declared.shapes.Shape.{Shape}
-use Rattle.wb_cache.specs.Changes.{ram_byte}
 use Rattle.wb_cache.specs.Contents.{Slot, slots}
 use Rattle.wb_cache.specs.Lookup.{holds, set_of}
 use Rattle.cyc_machine.specs.State.{State}

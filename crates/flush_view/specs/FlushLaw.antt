@@ -7,12 +7,11 @@ use Rattle.inst_buf.specs.Buffer.{entries}
 use Rattle.inst_buf.specs.Entry.{Entry}
 use Rattle.cyc_machine.specs.declared.fate.Fate.{Fate}
 use Rattle.cyc_machine.specs.declared.fate.Fate.TheVariants.{Stays}
-use Rattle.cyc_machine.specs.Cycle.{end_in, fate, retires}
+use Rattle.cyc_machine.specs.Cycle.{end_in, fate, retires, done_in}
 use Rattle.cyc_machine.specs.State.{State}
 use Rattle.flush_view.specs.Avoids.{AvoidsFlush, outside}
 use Rattle.flush_view.specs.Coherence.{IsCoherent}
 use Rattle.flush_view.specs.Flush.{entries_completed, fed, flush, path}
-use Rattle.flush_view.specs.MemoryLaw.{done_in}
 
 -- the entries that remain once ID has taken its own
 abbrev pub remaining : Fate → List Entry → List Entry
@@ -36,10 +35,13 @@ moved_flush s clocks log =
 -- `next` is the state after one cycle from s; the log is what was done before.
 pub record FlushLaw (s next : State) : Type 0 where
   -- A cycle that doesn't end the run. What it is done with, and so the byte that it puts, stands in the log of the next flush.
-  pub goes : (out : ℕ → Bool) (clocks : List ℕ) (log : Log) → IsCoherent out s → AvoidsFlush out s (fed s clocks) log → end_in s ≡ None → outside out (flush next clocks (logged log (done_in s))) ≡ outside out (moved_flush s (fed s clocks) log)
+  pub goes : (out : ℕ → Bool) (clocks : List ℕ) (log : Log) → IsCoherent out s → AvoidsFlush out s (fed s clocks) log → end_in s ≡ None
+      → outside out (flush next clocks (logged log (done_in s))) ≡ outside out (moved_flush s (fed s clocks) log)
   -- a cycle that ends the run has the flush's end, and the flush puts nothing
-  pub ends : (clocks : List ℕ) (log : Log) (end : End) → end_in s ≡ Some end → ((flush s clocks log).stop ≡ Some end) × ((flush s clocks log).log.output ≡ log.output)
+  pub ends : (clocks : List ℕ) (log : Log) (end : End) → end_in s ≡ Some end
+      → ((flush s clocks log).stop ≡ Some end) × ((flush s clocks log).log.output ≡ log.output)
   -- The flush completes what EX/MEM holds and so many entries of the path.
-  pub counts : (clocks : List ℕ) (log : Log) → length (flush s clocks log).log.actions ≡ length log.actions + (if s.m.valid then 1 else 0) + entries_completed s clocks log
+  pub counts : (clocks : List ℕ) (log : Log) → length (flush s clocks log).log.actions
+      ≡ length log.actions + (if s.m.valid then 1 else 0) + entries_completed s clocks log
   -- a cycle is done with one action where an occupied EX/MEM is left, else with none
   pub leaves : (log : Log) → length (logged log (done_in s)).actions ≡ length log.actions + (if retires s then 1 else 0)

@@ -5,7 +5,8 @@ use Rattle.elf_load.specs.Image.{LoadedImage}
 use Rattle.bit_field.specs.declared.shapes.Shape.{Shape}
 use Rattle.cyc_machine.specs.Cycle.{end_in}
 use Rattle.cyc_machine.specs.Run.{IsRunning, clocks_below, output_below, retired_below, state_at}
-use Rattle.flush_view.specs.Positions.{done_below, left_execute, left_memory, trace_at}
+use Rattle.flush_view.specs.Positions.{done_below, left_execute, left_memory}
+use Rattle.rv_isa.specs.Runs.{trace_at}
 use Rattle.flush_view.specs.RunFacts.{RunFacts}
 
 -- With these clock values the instruction set's run ends so after n instructions, with these bytes, and not before.
@@ -17,7 +18,8 @@ pub record EndsAfter (image : LoadedImage) (clocks : List ℕ) (n : ℕ) (end : 
 pub record RunLaw (image : LoadedImage) (shape : Shape) : Type 0 where
   -- each state, whatever clock values the cycles from t on will give
   pub facts : (t : ℕ) → IsRunning image shape t → (later : List ℕ)
-      → RunFacts (state_at image shape t) (done_below image shape t) later (trace_at image (clocks_below image shape t ++ later)) (left_memory image shape t) (left_execute image shape t)
+      → RunFacts (state_at image shape t) (done_below image shape t) later (trace_at image (clocks_below image shape t ++ later))
+      (left_memory image shape t) (left_execute image shape t)
   -- where the machine ends, the instruction set's run ends so, with the same output, after as many instructions as were retired
   pub ends : (t : ℕ) (end : End) → IsRunning image shape t → end_in (state_at image shape t) ≡ Some end
       → EndsAfter image (clocks_below image shape (suc t)) (retired_below image shape (suc t)) end (output_below image shape (suc t))

@@ -1,11 +1,10 @@
 -- The view of memory: the byte that main memory, the cache and the store buffer together give, whatever they hold.
 use Rattle.std.specs.Prelude.{ℕ, ◌/◌, ◌%◌, ◌==◌, ◌&&◌, cond, List, [], ◌∷◌, Option, Some, None, if◌then◌else◌}
 use Rattle.bit_field.specs.declared.shapes.Shape.{Shape}
-use Rattle.elf_load.specs.Image.{in_ram}
-use Rattle.store_buf.specs.Covers.{lane_byte}
-use Rattle.store_buf.specs.Entry.{Entry, has_lane}
+use Rattle.elf_load.specs.Image.{in_ram, ram_byte}
+use Rattle.bit_field.specs.Lanes.{has_lane, lane_byte}
+use Rattle.store_buf.specs.Entry.{Entry}
 use Rattle.store_buf.specs.Pending.{pending}
-use Rattle.wb_cache.specs.Changes.{ram_byte}
 use Rattle.wb_cache.specs.Contents.{Slot, slots}
 use Rattle.wb_cache.specs.Lookup.{set_of, way_of}
 use Rattle.cyc_machine.specs.State.{State}

@@ -1,13 +1,12 @@
 // The byte that the program sees.
 ghost use Rattle.std.specs.Prelude.{◌≡◌};
 ghost use Rattle.flush_view.specs.Views as views;
-ghost use Rattle.elf_load.specs.Image.{in_ram};
-ghost use Rattle.wb_cache.specs.Changes.{ram_byte};
+ghost use Rattle.elf_load.specs.Image.{in_ram, ram_byte};
 ghost use Rattle.wb_cache.specs.Contents.{slots};
 ghost use Rattle.std.specs.Prelude.{true, length};
 ghost use Rattle.store_buf.specs.Pending.{pending};
 
-use bit_field::{Struck, bit_at};
+use bit_field::{Struck, has_lane, lane_byte};
 use cyc_machine::Machine;
 use store_buf::{Pending, StoreBuf};
 
@@ -25,7 +24,7 @@ pub fn view_byte(m: &Machine<'_>, addr: u32) -> u8
 }
 
 // The byte of the first way that holds the line, else main memory's.
-#[tactic(auto, unfolding(crate::specs::Views::cached), using(crate::proofs::Found::founds))]
+#[tactic(auto, unfolding(crate::specs::Views::cached), using(crate::proofs::Memory::FoundByte::founds))]
 fn cached_byte(m: &Machine<'_>, addr: u32) -> u8
     requires { in_ram m.now.image addr ≡ true }
     ensures { result ≡ views.cached m.now.cache.shape (ram_byte m.now.image m.now.memory) (slots m.now.cache) addr }
@@ -37,7 +36,7 @@ fn cached_byte(m: &Machine<'_>, addr: u32) -> u8
 }
 
 // Main memory's byte.
-#[tactic(auto, using(crate::proofs::Found::founds, crate::proofs::Found::inside))]
+#[tactic(auto, using(crate::proofs::Memory::FoundByte::founds, crate::proofs::Memory::FoundByte::inside))]
 fn memory_byte(m: &Machine<'_>, addr: u32) -> u8
     requires { in_ram m.now.image addr ≡ true }
     ensures { result ≡ ram_byte m.now.image m.now.memory addr }
@@ -61,8 +60,8 @@ fn stored_byte(stores: &StoreBuf, addr: u32, below: u8) -> u8
 fn over(store: &Pending, addr: u32, below: u8) -> u8
     ensures { result ≡ views.over store.now addr below }
 {
-    if store.addr == addr / 4 && bit_at(u32::from(store.mask), addr % 4) {
-        store.value.to_le_bytes()[(addr % 4) as usize]
+    if store.addr == addr / 4 && has_lane(store.mask, addr % 4) {
+        lane_byte(store.value, addr % 4)
     } else {
         below
     }

@@ -3,9 +3,9 @@ use Rattle.std.proofs.Common.{ℕ, zero, suc, ◌+◌, ◌-◌, ◌*◌, ◌/◌
 use Rattle.std.specs.List.{All}
 use Rattle.std.specs.Prelude.{not, ◌&&◌, ◌==◌, is_none}
 use Rattle.std.proofs.lemmas.Nat.{mod_below}
-use Rattle.elf_load.specs.Image.{LoadedImage, IsImage, in_ram, word_in_ram, executable}
+use Rattle.elf_load.specs.Image.{LoadedImage, IsImage, in_ram, word_in_ram, executable, ram_byte}
 use Rattle.rv_isa.specs.Instruction.{State, reg, put_reg, given, memory_after, instruction, op_at, first_clock, later_clocks}
-use Rattle.rv_isa.specs.Runs.{reset, loaded_byte, after}
+use Rattle.rv_isa.specs.Runs.{reset, after}
 use Rattle.rv_table.specs.Accesses.{loaded, stored, accesses, byte_of, load_size, store_size, extended_byte, extended_half, half_at}
 use Rattle.rv_table.specs.Actions.{action, asked, asked_by, judged, value_by, misses_target, counter_by, with_counter, is_clocked, is_aligned, some_executable}
 use Rattle.rv_table.specs.Arithmetic.{sum32}
@@ -20,7 +20,8 @@ use Rattle.rv_table.specs.declared.operation.StoreKind.{StoreKind}
 use Rattle.rv_table.specs.declared.operation.CounterKind.TheVariants.{Cycle, Instret, Cycleh, Instreth}
 use Rattle.rv_table.specs.declared.operation.Operation.{Operation}
 use Rattle.rv_table.specs.declared.operation.Operation.TheVariants.{Lui, Auipc, Jal, Jalr, Branch, Load, Store, AluImmediate, Alu, Fence, Ecall, ReadCounter}
-use Rattle.need_pass.specs.Law.{next_action, IsWords}
+use Rattle.need_pass.specs.Law.{IsWords}
+use Rattle.rv_isa.specs.Accesses.{next_action}
 use Rattle.need_pass.proofs.OneStep.{operand_below, registers_next, memory_next, count_next, clocks_next}
 use Rattle.need_pass.proofs.Fields.{fetched_fields}
 use Rattle.need_pass.proofs.Results.{alu_below}
@@ -156,10 +157,10 @@ words_next image at is w = record {
     kept false = w.clocks
 
 pub words_reset : (image : LoadedImage) (clocks : List ℕ) → IsImage image → All (λ c. c < 2 ^ 32) clocks → IsWords (reset image clocks)
-unfolding reset
+unfolding reset ram_byte
 words_reset image clocks is h = record { registers = λ r. lit< tt; memory = λ p. ram_below p; count = lit< tt; clocks = h }
   where
-    ram_below : (p : ℕ) → loaded_byte image p < 2 ^ 8
+    ram_below : (p : ℕ) → ram_byte image image.ram p < 2 ^ 8
     ram_below p = elim (in_ram image p) as (λ t. cond t (get_or image.ram (p - image.base) 0) 0 < 2 ^ 8) [ true ↦ is.bytes (p - image.base) | false ↦ lit< tt ]
 
 pub words_after : (image : LoadedImage) (n : ℕ) (at : State) → IsImage image → IsWords at → IsWords (after image n at)

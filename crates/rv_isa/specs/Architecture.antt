@@ -1,6 +1,6 @@
 -- The architectural state as the program holds it, in lists, and the state of the instruction set's run that it stands for.
 use Rattle.std.specs.Prelude.{◌≡◌, ℕ, ◌+◌, ◌-◌, ◌^◌, ◌<◌, ◌&&◌, nat_le, nat_lt, List, [], length, slice_index, None, if◌then◌else◌}
-use Rattle.elf_load.specs.Image.{LoadedImage, IsImage, in_ram}
+use Rattle.elf_load.specs.Image.{LoadedImage, IsImage, ram_byte}
 use Rattle.rv_isa.specs.Instruction.{State}
 use Rattle.rv_table.specs.Accesses.{byte_of}
 
@@ -11,10 +11,6 @@ pub record ArchState : Type 0 where
   pub pc : ℕ  -- word address of the next instruction
   pub count : ℕ  -- instructions so far, modulo 2^32
   pub clocks : List ℕ  -- clock values that are left
-
--- byte p of a RAM with these bytes, 0 outside RAM
-abbrev pub ram_byte : LoadedImage → List ℕ → ℕ → ℕ
-ram_byte image bytes p = if in_ram image p then slice_index bytes (p - image.base) else 0
 
 -- byte p of a list in which the low bytes of a value stand from index `at` on
 abbrev pub byte_stored : ℕ → ℕ → ℕ → List ℕ → ℕ → ℕ

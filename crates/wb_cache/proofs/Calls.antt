@@ -1,9 +1,9 @@
 -- The slots and main memory after each call.
 use Rattle.std.proofs.Common.{◌≡◌, ℕ, ◌<◌, List, length, ap, refl, sym, ◌∙◌}
 use Rattle.std.specs.Prelude.{Option, Some, None}
-use Rattle.elf_load.specs.Image.{LoadedImage, IsImage}
+use Rattle.elf_load.specs.Image.{LoadedImage, IsImage, ram_byte}
 use Rattle.wb_cache.specs.Access.{read, written, found, on_hit, touched}
-use Rattle.wb_cache.specs.Changes.{put_slot, written_slot, filled_slot, ram_byte, slot_written_back}
+use Rattle.wb_cache.specs.Changes.{put_slot, written_slot, filled_slot, slot_written_back}
 use Rattle.wb_cache.specs.Contents.{Contents, IsSized, slots}
 use Rattle.wb_cache.specs.Lookup.{way_of, set_of}
 use Rattle.wb_cache.specs.Refill.{refilled, memory_refilled, way_for}

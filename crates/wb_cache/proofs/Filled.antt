@@ -6,8 +6,8 @@ use Rattle.std.specs.List.{replace_range}
 use Rattle.std.proofs.lemmas.Bool.{cases_lt}
 use Rattle.std.proofs.lemmas.Bool.Decides.{nat_tests}
 use Rattle.std.proofs.lemmas.List.{get_or-set_same, get_or-set_other}
-use Rattle.elf_load.specs.Image.{LoadedImage, IsImage}
-use Rattle.wb_cache.specs.Changes.{put_slot, filled_slot, ram_byte}
+use Rattle.elf_load.specs.Image.{LoadedImage, IsImage, ram_byte}
+use Rattle.wb_cache.specs.Changes.{put_slot, filled_slot}
 use Rattle.wb_cache.specs.Contents.{Contents, IsSized, slots, slot_at, slot_of}
 use Rattle.wb_cache.specs.Lookup.{set_of, tag_of}
 use Rattle.wb_cache.specs.Refill.{filled, line_bytes}

@@ -5,8 +5,7 @@ use Rattle.std.specs.Prelude.{slice_index, slice_range, replicate, ◌==◌, ◌
 use Rattle.std.proofs.lemmas.Bool.{cases_eq, cases_lt}
 use Rattle.std.proofs.lemmas.Bool.Decides.{nat_tests}
 use Rattle.std.proofs.lemmas.List.{get_or-replicate}
-use Rattle.elf_load.specs.Image.{LoadedImage, IsImage, in_ram}
-use Rattle.wb_cache.specs.Changes.{ram_byte}
+use Rattle.elf_load.specs.Image.{LoadedImage, IsImage, in_ram, ram_byte}
 use Rattle.wb_cache.specs.Refill.{line_bytes, put_line, place_of}
 use Rattle.wb_cache.proofs.Lengths.{length-replace}
 use Rattle.wb_cache.proofs.Ranges.{length-range, range-read, replaced-in, replaced-off}

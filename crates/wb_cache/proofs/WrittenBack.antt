@@ -3,8 +3,8 @@ use Rattle.std.proofs.Common.{◌≡◌, ℕ, ◌+◌, ◌*◌, ◌/◌, ◌%◌
 use Rattle.std.specs.Prelude.{slice_index, slice_index_or, slice_range, ◌==◌, ◌&&◌}
 use mathlib.Core.Path.{fun_ext}
 use Rattle.bit_field.specs.Shapes.{slots as slot_count}
-use Rattle.elf_load.specs.Image.{LoadedImage, IsImage, in_ram}
-use Rattle.wb_cache.specs.Changes.{put_slot, filled_slot, ram_byte, slot_written_back}
+use Rattle.elf_load.specs.Image.{LoadedImage, IsImage, in_ram, ram_byte}
+use Rattle.wb_cache.specs.Changes.{put_slot, filled_slot, slot_written_back}
 use Rattle.wb_cache.specs.Contents.{Contents, IsSized, slots, slot_of}
 use Rattle.wb_cache.specs.Lookup.{set_of, tag_of, line_of}
 use Rattle.wb_cache.specs.Refill.{refilled, written_back, memory_refilled, put_line, way_for}

@@ -1,8 +1,8 @@
 -- What a write, a refill and a strike do to the slots and to main memory, slot by slot and byte by byte.
-use Rattle.std.specs.Prelude.{ℕ, ◌+◌, ◌-◌, ◌*◌, ◌/◌, ◌%◌, ◌^◌, ◌==◌, ◌&&◌, true, false, not, cond, nat_lt, List, slice_index, bit_xor}
+use Rattle.std.specs.Prelude.{ℕ, ◌+◌, ◌*◌, ◌/◌, ◌%◌, ◌^◌, ◌==◌, ◌&&◌, true, false, not, cond, nat_lt, bit_xor}
 use Rattle.bit_field.specs.declared.shapes.Shape.{Shape}
 use Rattle.elf_load.specs.Image.{LoadedImage, in_ram}
-use Rattle.wb_cache.specs.Access.{has_lane, lane_byte}
+use Rattle.bit_field.specs.Lanes.{has_lane, lane_byte}
 use Rattle.wb_cache.specs.Contents.{Slot}
 use Rattle.wb_cache.specs.Lookup.{set_of, tag_of}
 
@@ -18,10 +18,6 @@ written_slot word mask value slot = record {
   tag = slot.tag;
   bytes = λ o. cond (o / 4 == word && has_lane mask (o % 4)) (lane_byte value (o % 4)) (slot.bytes o);
 }
-
--- main memory by byte address, 0 outside RAM
-unfoldable pub ram_byte : LoadedImage → List ℕ → ℕ → ℕ
-ram_byte image memory p = cond (in_ram image p) (slice_index memory (p - image.base)) 0
 
 -- main memory with a slot of a set written back, where it is valid and dirty
 unfoldable pub slot_written_back : LoadedImage → Shape → ℕ → Slot → (ℕ → ℕ) → ℕ → ℕ

@@ -1,4 +1,4 @@
-use Rattle.flush_view.proofs.RunLaw.{run-law}
+use Rattle.flush_view.proofs.Run.RunLaw.{run-law}
 use Rattle.flush_view.proofs.laws.run_law.Goals as goal
 
 pub returns : goal.returns

@@ -1,4 +1,4 @@
-use Rattle.flush_view.proofs.Slots.{overlaid_slots}
+use Rattle.flush_view.proofs.Memory.FourSlots.{overlaid_slots}
 use Rattle.flush_view.proofs.views.stored_byte.Goals as goal
 
 pub returns : goal.returns

@@ -1,0 +1,14 @@
+-- The flush law: a cycle leaves the flush as it is, or moves it on by one instruction, outside a set X of lines.
+--   Operands, Path: operands of what stands on the path; completing a path with one more item at its end.
+--   Pipes: the pipeline alone, memory any function; PipeLaw: its flush law, by the fate of ID/EX; Counts: how much is completed.
+--   MachinePipe: the machine's pipeline as such a one. Masked: the law over the view in which the bytes of X read 0.
+--   Avoiding: where what is completed avoids X, the law outside X. FlushLaw: the machine's cycle.
+pub mod Operands
+pub mod Path
+pub mod Pipes
+pub mod PipeLaw
+pub mod Counts
+pub mod MachinePipe
+pub mod Masked
+pub mod Avoiding
+pub mod FlushLaw
