@@ -1,7 +1,7 @@
 -- The log of a cache: what happened to it in the cycles of a run, in order.
 use Rattle.std.specs.Prelude.{ℕ, ◌/◌, ◌%◌, ◌<◌, ◌==◌, ◌&&◌, Bool, nat_le, List, Option, filter, find, map, All, AllPairs}
 use Rattle.bit_field.specs.declared.shapes.Shape.{Shape}
-use Rattle.wb_cache.specs.Access.{has_lane}
+use Rattle.bit_field.specs.Lanes.{has_lane}
 use Rattle.wb_cache.specs.Contents.{slot_of}
 use Rattle.wb_cache.specs.declared.event.CacheEvent.{CacheEvent}
 

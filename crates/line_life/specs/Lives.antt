@@ -2,7 +2,7 @@
 use Rattle.std.specs.Prelude.{◌≡◌, ℕ, ◌+◌, ◌*◌, ◌/◌, ◌%◌, ◌<◌, ◌==◌, ◌&&◌, Bool, true, false, nat_le, nat_lt, List, [], Option, Some, None, if◌then◌else◌, slice_index_or, length, find, All, AllPairs}
 use Rattle.bit_field.specs.Shapes.{IsShape, slots}
 use Rattle.bit_field.specs.declared.shapes.Shape.{Shape}
-use Rattle.wb_cache.specs.Access.{has_lane}
+use Rattle.bit_field.specs.Lanes.{has_lane}
 use Rattle.wb_cache.specs.declared.event.CacheEvent.{CacheEvent}
 use Rattle.wb_cache.specs.declared.event.EventKind.{EventKind}
 use Rattle.wb_cache.specs.declared.event.EventKind.TheVariants.{Read, Write, Miss, Fill}

@@ -5,6 +5,7 @@ ghost use Rattle.line_life.specs.Lives.{IsRising};
 
 use crate::next::Next;
 use avf_base::OutOfMemory;
+use bit_field::has_lane;
 use std::alloc::Global;
 use std::marker::Model;
 use wb_cache::{CacheEvent, EventKind};
@@ -70,7 +71,7 @@ impl ChangeList {
 pub fn holds_byte(word: u32, mask: u8, byte: u32) -> bool
     ensures { result ≡ lives.is_held word mask byte }
 {
-    word == byte / 4 && (mask >> (byte % 4)) & 1 == 1
+    word == byte / 4 && has_lane(mask, byte % 4)
 }
 
 /// What a change is to a byte of its slot.
