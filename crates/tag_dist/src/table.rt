@@ -60,6 +60,7 @@ impl TagTable {
 }
 
 /// The first cycle from `t` on in which a line is asked for.
+#[tactic(auto, unfolding(event_log::specs::Cycles::first_from))]
 fn first_asked(asked: &BTreeMap<u32, CycleList>, line: u32, t: u32) -> Option<u32>
     requires { tables.IsRisingAt asked.now.entries line }
     ensures { result ≡ tables.first_asked asked.now.entries line t }

@@ -10,5 +10,5 @@ loop-i-preserved c = last-more c.args.trace.now.entries c.loop-i.i c.entry.resul
 
 pub returns : goal.returns
 returns c =
-    let n : c.loop-i.i ≡ length c.args.trace.now.entries = omega (arith, c.len.ensures) in
+    let n : c.loop-i.i ≡ length c.args.trace.now.entries = omega (arith, c.len-i-end.ensures) in
     subst (λ n. IsLast c.args.trace.now.entries n c.loop-i.last.entries) n c.loop-i.invariant
