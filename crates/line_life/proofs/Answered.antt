@@ -1,7 +1,7 @@
 -- What the lists of all events answer.
-use Rattle.std.proofs.Common.{◌≡◌, ℕ, ◌+◌, ◌*◌, ◌/◌, ◌%◌, ◌<◌, Bool, true, false, cond, List, [], length, get_or, take, refl, sym, ◌∙◌, ap, subst, arith}
-use Rattle.std.specs.Prelude.{Option, Some, None, ◌&&◌, ◌||◌, ◌==◌, nat_le, nat_lt, filter, find, map}
-use Rattle.std.specs.List.{All, AllPairs}
+use Rattle.std.proofs.Common.{◌≡◌, ℕ, ◌+◌, ◌*◌, ◌/◌, ◌%◌, ◌<◌, Bool, true, false, cond, List, [], length, get_or, refl, sym, ◌∙◌, ap, arith}
+use Rattle.std.specs.Prelude.{Option, Some, None, ◌&&◌, ◌||◌, nat_le, nat_lt}
+use Rattle.std.specs.List.{AllPairs}
 use Rattle.std.specs.Option.{IfSome, option_map, option_map_or}
 use Rattle.std.proofs.lemmas.List.{get_or_default, take_all}
 use mathlib.Core.Path.{fun_ext}
@@ -13,10 +13,9 @@ use Rattle.wb_cache.specs.declared.event.EventKind.TheVariants.{Read, Write, Mis
 use Rattle.event_log.specs.Cycles as cycles
 use Rattle.event_log.specs.Events.{IsEventLog, cycles_of, first_event, holds_byte, is_of_slot}
 use Rattle.event_log.proofs.Logs.{earlier, find-shown, first-cycles, first-either, first-passes, rising-cycles, rising-shown}
-use Rattle.line_life.specs.Lives.{IsLifeOf, IsLives, IsRising, Lives, change_of, changes_slot, first_change, is_change, is_read, next_in, reads_byte, sooner}
+use Rattle.line_life.specs.Lives.{IsLifeOf, IsLives, IsRising, Lives, change_of, changes_slot, first_change, is_read, next_in, reads_byte, sooner}
 use Rattle.line_life.specs.Nexts.{concerns, concerns_by, next_of, told_by}
 use Rattle.line_life.specs.declared.changes.Change.{Change}
-use Rattle.line_life.specs.declared.next.Next.{Next}
 use Rattle.line_life.specs.declared.next.Next.TheVariants.{Ends}
 use Rattle.line_life.proofs.Noted.{IsNoted, changes_at, changes_of, reads_at}
 

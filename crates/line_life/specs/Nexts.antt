@@ -1,5 +1,5 @@
 -- What next concerns a byte of a line slot. Slot l is that of set l / ways and way l % ways.
-use Rattle.std.specs.Prelude.{ℕ, ◌&&◌, Bool, true, false, List, Option}
+use Rattle.std.specs.Prelude.{ℕ, ◌&&◌, Bool, true, false, List}
 use Rattle.std.specs.Option.{option_map_or}
 use Rattle.bit_field.specs.declared.shapes.Shape.{Shape}
 use Rattle.wb_cache.specs.declared.event.CacheEvent.{CacheEvent}

@@ -107,7 +107,11 @@ fn note_read(reads: &mut [CycleList], slot: usize, event: &CacheEvent) -> Result
 }
 
 /// Notes a write or a fill: it goes behind the changes of its slot.
-fn note_change(changes: &mut [ChangeList], slot: usize, event: &CacheEvent) -> Result<(), OutOfMemory>
+fn note_change(
+    changes: &mut [ChangeList],
+    slot: usize,
+    event: &CacheEvent,
+) -> Result<(), OutOfMemory>
     requires { slot < length changes.old }
     ensures { OnOk result ((l : ℕ) → slice_index_or changes.new l [] ≡ (if slot == l then slice_index_or changes.old l [] ++ change_of event.now ∷ [] else slice_index_or changes.old l [])) }
 {

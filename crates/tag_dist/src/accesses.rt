@@ -9,11 +9,7 @@ use std::alloc::Global;
 use std::collections::BTreeMap;
 
 /// Instruction `i` is the last so far that accesses the line of a byte address.
-fn note_address(
-    last: &mut BTreeMap<u32, u32>,
-    address: u32,
-    i: u32,
-) -> Result<(), OutOfMemory>
+fn note_address(last: &mut BTreeMap<u32, u32>, address: u32, i: u32) -> Result<(), OutOfMemory>
     ensures { OnOk result ((line : ℕ) → last_in last.new.entries line ≡ (if address / 16 == line then Some i else last_in last.old.entries line)) }
 {
     last.insert(address / 16, i)?;
@@ -21,11 +17,7 @@ fn note_address(
 }
 
 /// Instruction `i` is the last so far that accesses the lines that it loads from and stores to.
-fn note_entry(
-    last: &mut BTreeMap<u32, u32>,
-    entry: &Retired,
-    i: u32,
-) -> Result<(), OutOfMemory>
+fn note_entry(last: &mut BTreeMap<u32, u32>, entry: &Retired, i: u32) -> Result<(), OutOfMemory>
     ensures { OnOk result ((line : ℕ) → last_in last.new.entries line ≡ (if accesses line entry.now then Some i else last_in last.old.entries line)) }
 {
     if let Some((address, _)) = entry.effect.load {

@@ -1,4 +1,4 @@
-use Rattle.std.proofs.Common.{◌≡◌, ℕ, ◌+◌, List, length, drop, get_or, ap, subst, arith}
+use Rattle.std.proofs.Common.{◌≡◌, length, drop, get_or, ap, subst, arith}
 use Rattle.std.proofs.lemmas.List.{get_or_default, take_at}
 use Rattle.wb_cache.specs.declared.event.EventKind.TheVariants.{Read}
 use Rattle.line_life.proofs.Answered.{life-all, lives-all}

@@ -1,4 +1,4 @@
-use Rattle.std.proofs.Common.{◌≡◌, ℕ, length, ap, subst, arith}
+use Rattle.std.proofs.Common.{◌≡◌, length, subst, arith}
 use Rattle.tag_dist.proofs.Noted.{IsLast, last-more, last-none}
 use Rattle.tag_dist.proofs.accesses.last_accesses.Goals as goal
 

@@ -1,5 +1,4 @@
-use Rattle.std.proofs.Common.{ℕ, ◌+◌, ◌*◌, ◌/◌, ◌%◌, ◌^◌, ◌<◌, arith}
-use Rattle.std.specs.Prelude.{bit_xor}
+use Rattle.std.proofs.Common.{arith}
 use Rattle.tag_dist.proofs.Distances.{distance_below}
 use Rattle.tag_dist.proofs.distance.distance_one.Goals as goal
 
