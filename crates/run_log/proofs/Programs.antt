@@ -5,7 +5,7 @@ use Rattle.avf_base.specs.declared.end.End.{End}
 use Rattle.elf_load.specs.Image.{LoadedImage}
 use Rattle.bit_field.specs.declared.shapes.Shape.{Shape}
 use Rattle.cyc_machine.specs.Cycle.{retires}
-use Rattle.cyc_machine.specs.Run.{IsRunning, clocks_below, output_below, retired_below, state_at}
+use Rattle.cyc_machine.specs.Run.{IsRunning, clocks_below, output_below, retired_after, retired_below, state_at}
 use Rattle.flush_view.specs.RunLaw.{EndsAfter, RunLaw}
 use Rattle.run_record.specs.Journals.{closed}
 use Rattle.run_record.specs.declared.journal.Journal.{Journal}
@@ -31,7 +31,7 @@ one_more true n t h = omega arith
 one_more false n t h = omega arith
 
 pub few_below : (image : LoadedImage) (shape : Shape) (t : ℕ) → retired_below image shape t ≤ t
-unfolding retired_below
+unfolding retired_after
 few_below image shape zero = omega arith
 few_below image shape (suc t) = one_more (retires (state_at image shape t)) (retired_below image shape t) t (few_below image shape t)
 
