@@ -1,5 +1,6 @@
 -- The lists that a run's events leave, by line slot and by byte, and what they answer.
-use Rattle.std.specs.Prelude.{◌≡◌, ℕ, ◌+◌, ◌*◌, ◌/◌, ◌%◌, ◌<◌, ◌==◌, ◌&&◌, Bool, true, false, nat_le, nat_lt, List, [], Option, Some, None, if◌then◌else◌, slice_index_or, length, find, All, AllPairs}
+use Rattle.std.specs.Prelude.{◌≡◌, ℕ, ◌+◌, ◌*◌, ◌/◌, ◌%◌, ◌<◌, ◌==◌, ◌&&◌, Bool, true, false, nat_le, nat_lt, List, [], Option, Some, None, if◌then◌else◌}
+use Rattle.std.specs.Prelude.{slice_index_or, length, find, All, AllPairs}
 use Rattle.bit_field.specs.Shapes.{IsShape, slots}
 use Rattle.bit_field.specs.declared.shapes.Shape.{Shape}
 use Rattle.bit_field.specs.Lanes.{has_lane}

@@ -1,5 +1,6 @@
 -- What a run does with lines. A line is a byte address divided by 16.
-use Rattle.std.specs.Prelude.{ℕ, zero, suc, ◌/◌, ◌^◌, ◌==◌, ◌&&◌, ◌||◌, Bool, true, false, nat_le, List, Option, Some, None, length, slice_get, bit_xor, if◌then◌else◌}
+use Rattle.std.specs.Prelude.{ℕ, zero, suc, ◌/◌, ◌^◌, ◌==◌, ◌&&◌, ◌||◌, Bool, true, false, nat_le, List, Option, Some, None, length, slice_get, bit_xor}
+use Rattle.std.specs.Prelude.{if◌then◌else◌}
 use Rattle.std.specs.Option.{option_map_or}
 use Rattle.bit_field.specs.declared.shapes.Shape.{Shape}
 use Rattle.rv_isa.specs.declared.effect.Retired.{Retired}
