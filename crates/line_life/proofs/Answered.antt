@@ -14,9 +14,9 @@ use Rattle.event_log.specs.Cycles as cycles
 use Rattle.event_log.specs.Events.{IsEventLog, cycles_of, first_event, holds_byte, is_of_slot}
 use Rattle.event_log.proofs.Logs.{earlier, find-shown, first-cycles, first-either, first-passes, rising-cycles, rising-shown}
 use Rattle.line_life.specs.Lives.{IsLifeOf, IsLives, IsRising, Lives, change_of, changes_slot, first_change, is_read, next_in, reads_byte, sooner}
-use Rattle.line_life.specs.Nexts.{concerns, concerns_by, next_of, told_by}
+use Rattle.event_log.specs.Nexts.{concerns, concerns_by, next_of, told_by}
 use Rattle.line_life.specs.declared.changes.Change.{Change}
-use Rattle.line_life.specs.declared.next.Next.TheVariants.{Ends}
+use Rattle.event_log.specs.declared.next.Next.TheVariants.{Ends}
 use Rattle.line_life.proofs.Noted.{IsNoted, changes_at, changes_of, reads_at}
 
 -- an event concerns a byte where it reads it or changes its slot

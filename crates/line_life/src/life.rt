@@ -9,10 +9,9 @@ ghost use Rattle.line_life.specs.Lives as lives;
 ghost use Rattle.line_life.specs.Lives.{IsLifeOf, change_of};
 
 use crate::changes::{Change, ChangeList, holds_byte, told};
-use crate::next::Next;
 use avf_base::OutOfMemory;
 use bit_field::Shape;
-use event_log::{CycleList, slot_count, slot_number};
+use event_log::{CycleList, Next, slot_count, slot_number};
 use std::alloc::Global;
 use std::marker::Model;
 use wb_cache::{CacheEvent, EventKind};

@@ -10,7 +10,8 @@ use Rattle.wb_cache.specs.declared.event.CacheEvent.{CacheEvent}
 use Rattle.event_log.specs.Cycles.{first_from}
 use Rattle.event_log.specs.Events.{IsEventLog, cycles_of, first_event}
 use Rattle.event_log.proofs.Logs.{first-cycles, rising-cycles}
-use Rattle.tag_dist.specs.Lines.{fills, has_line, is_by, last_access, looked_up}
+use Rattle.event_log.specs.Lookups.{fills, has_line, is_by, looked_up}
+use Rattle.tag_dist.specs.Lines.{last_access}
 use Rattle.tag_dist.specs.Tables.{IsTableOf, IsTables, Tables, asked_in, comes_by, last_in, looked_up_in}
 
 -- the order of two events is that of their cycles

@@ -9,7 +9,8 @@ use Rattle.rv_isa.specs.declared.effect.Retired.{Retired}
 use Rattle.wb_cache.specs.declared.event.CacheEvent.{CacheEvent}
 use Rattle.event_log.specs.Events.{cycles_of}
 use Rattle.event_log.proofs.Logs.{cycles-more}
-use Rattle.tag_dist.specs.Lines.{accesses, fills, has_line, is_fill, last_below}
+use Rattle.event_log.specs.Lookups.{fills, has_line, is_fill}
+use Rattle.tag_dist.specs.Lines.{accesses, last_below}
 use Rattle.tag_dist.specs.Tables.{asked_in, last_in}
 
 -- the lists of lines once the first n events are noted

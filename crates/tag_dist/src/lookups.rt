@@ -3,7 +3,7 @@ ghost use Rattle.std.specs.Prelude.{◌≡◌, ◌<◌, ◌==◌, ◌&&◌, ◌+
 ghost use Rattle.bit_field.specs.Shapes.{IsShape, slots};
 ghost use Rattle.event_log.specs.Cycles.{pushed_if};
 ghost use Rattle.event_log.specs.Events.{IsEventLog, cycles_of};
-ghost use Rattle.tag_dist.specs.Lines.{fills, has_line, is_fill};
+ghost use Rattle.event_log.specs.Lookups.{fills, has_line, is_fill};
 ghost use Rattle.tag_dist.specs.Tables.{asked_in};
 
 use avf_base::OutOfMemory;

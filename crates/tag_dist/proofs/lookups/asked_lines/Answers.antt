@@ -2,7 +2,7 @@ use Rattle.std.proofs.Common.{◌≡◌, length, get_or, ◌∙◌, ap, arith}
 use Rattle.std.proofs.lemmas.List.{get_or_default, take_all}
 use Rattle.wb_cache.specs.declared.event.EventKind.TheVariants.{Read}
 use Rattle.event_log.specs.Events.{cycles_of}
-use Rattle.tag_dist.specs.Lines.{has_line}
+use Rattle.event_log.specs.Lookups.{has_line}
 use Rattle.tag_dist.proofs.Noted.{asked-more, asked-none}
 use Rattle.tag_dist.proofs.lookups.asked_lines.Goals as goal
 
