@@ -23,11 +23,11 @@ use Rattle.flush_view.proofs.Flush.Pipes.{completed_with}
 use Rattle.flush_view.proofs.Run.Sound.{AreFetched}
 
 -- what it tells that an item is reached
-reached-stop : (o : Option End) (b : Bool) → is_none o && b ≡ true → o ≡ None
+pub reached-stop : (o : Option End) (b : Bool) → is_none o && b ≡ true → o ≡ None
 reached-stop None b h = refl
 reached-stop (Some end) b h = absurd cc
 
-reached-pc : (item : Item) (at : Arch) → is_reached item at ≡ true → item.pc ≡ at.pc
+pub reached-pc : (item : Item) (at : Arch) → is_reached item at ≡ true → item.pc ≡ at.pc
 reached-pc item at h = go (is_none at.stop) h
   where
     go : (b : Bool) → b && item.pc == at.pc ≡ true → item.pc ≡ at.pc
@@ -35,13 +35,13 @@ reached-pc item at h = go (is_none at.stop) h
     go false e = absurd cc
 
 -- an entry that holds what is fetched at its address is the next instruction where it is reached
-entry-next : (image : LoadedImage) (e : Entry) (at : Arch) → e ≡ fetched image e.pc → e.pc ≡ at.pc
+pub entry-next : (image : LoadedImage) (e : Entry) (at : Arch) → e ≡ fetched image e.pc → e.pc ≡ at.pc
     → completed_item image (item_of_entry e) at ≡ instruction image at
 entry-next image e at same h =
     ap (λ (x : Entry). completed_item image (item_of_entry x) at) same ∙ fetched-next image e.pc at h
 
 -- and so is an ID/EX that holds the next instruction
-held-next : (s : State) (at : Arch) → HoldsNext s at → s.d.pc ≡ at.pc
+pub held-next : (s : State) (at : Arch) → HoldsNext s at → s.d.pc ≡ at.pc
     → completed_item s.image (item_of_latch s.image (action_in_m s) s.w (view s) s.d) at ≡ instruction s.image at
 unfolding instruction
 held-next s at holds e =

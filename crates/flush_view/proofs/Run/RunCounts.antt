@@ -86,7 +86,7 @@ clocks_by (Goes a b) s xs later = go (is_clocked (op_of_latch s.d))
     go false = refl
 
 -- a byte is put at once
-put_by : (image : LoadedImage) (m : Action) (es : List Entry) (read : Option ℕ) (xs : List ℕ)
+pub put_by : (image : LoadedImage) (m : Action) (es : List Entry) (read : Option ℕ) (xs : List ℕ)
     → with_byte xs (byte_put (if (served image m es read).goes then m else Nothing)) ≡ with_one xs (byte_put m)
 unfolding served
 put_by image Nothing es read xs = refl
