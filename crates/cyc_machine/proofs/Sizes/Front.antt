@@ -28,7 +28,7 @@ use Rattle.cyc_machine.specs.declared.fate.Fate.{Fate}
 use Rattle.cyc_machine.specs.declared.fate.Fate.TheVariants.{Absent, Dropped, Stays, Goes}
 use Rattle.cyc_machine.specs.Pipeline.{counted, decoded, decoded_after, delay_of, entries_after, fetched, entry_of_word, filled, if_room, lesson, npc_after, op_of_entry, pc_after, stalled, taken, trained_by}
 use Rattle.cyc_machine.specs.Sizes.{IsDecodedSteady}
-use Rattle.cyc_machine.proofs.Sizes.Numbers.{decode-imm}
+use Rattle.rv_table.proofs.DecodedFields.{decode-imm}
 
 -- ---- addresses
 
