@@ -10,7 +10,9 @@ use Rattle.rv_table.specs.Actions.{misses_target, taken as was_taken}
 use Rattle.rv_table.specs.Operations.{operation_of}
 use Rattle.rv_table.specs.Words.{decode}
 use Rattle.rv_table.specs.declared.op.Op.{Op}
+use Rattle.rv_table.specs.declared.op.TheConstants.{FETCH_FAULT_CODE}
 use Rattle.rv_table.proofs.Addresses.{next_address-below}
+use Rattle.rv_table.proofs.RowLookups.{delay_of-below}
 use Rattle.rv_table.proofs.WordTable.{decode-code, decode-rd, decode-rs1, decode-rs2}
 use Rattle.pipe_latch.specs.Execution.{is_branch_or_jump, learned, next_of}
 use Rattle.pipe_latch.specs.Latches.{DecodedLatch, ResultLatch, no_decoded, op_of_latch}
@@ -26,7 +28,7 @@ use Rattle.predictor.specs.TargetBits as targets_bits
 use Rattle.predictor.specs.Tables.{Tables, Target, counter_at, moved, no_target, predicted, predicts_taken, target_at, trained}
 use Rattle.cyc_machine.specs.declared.fate.Fate.{Fate}
 use Rattle.cyc_machine.specs.declared.fate.Fate.TheVariants.{Absent, Dropped, Stays, Goes}
-use Rattle.cyc_machine.specs.Pipeline.{counted, decoded, decoded_after, delay_of, entries_after, fetched, entry_of_word, filled, if_room, lesson, npc_after, op_of_entry, pc_after, stalled, taken, trained_by}
+use Rattle.cyc_machine.specs.Pipeline.{counted, decoded, decoded_after, entries_after, fetched, entry_of_word, filled, if_room, lesson, npc_after, op_of_entry, pc_after, stalled, taken, trained_by}
 use Rattle.cyc_machine.specs.Sizes.{IsDecodedSteady}
 use Rattle.rv_table.proofs.DecodedFields.{decode-imm}
 
@@ -177,18 +179,15 @@ record IsOpSteady (op : Op) : Type 0 where
   pub rs2 : op.rs2 < 32
   pub imm : op.imm < 2 ^ 32
 
-op-fits : (e : Entry) (b : Bool) → slot_bits.IsFit e → IsOpSteady (if b then record (decode e.word) { code = 1 } else decode e.word)
+op-fits : (e : Entry) (b : Bool) → slot_bits.IsFit e → IsOpSteady (if b then record (decode e.word) { code = FETCH_FAULT_CODE } else decode e.word)
 op-fits e true fit = record { code = lit< tt; rd = decode-rd e.word; rs1 = decode-rs1 e.word; rs2 = decode-rs2 e.word; imm = decode-imm e.word fit.1.1.1.0 }
 op-fits e false fit = record { code = decode-code e.word; rd = decode-rd e.word; rs1 = decode-rs1 e.word; rs2 = decode-rs2 e.word; imm = decode-imm e.word fit.1.1.1.0 }
-
-delay-below : (code : ℕ) → delay_of code < 32
-delay-below code = grind (arith, nat_tests)
 
 decoded-steady : (e : Entry) (w : ResultLatch) (registers : List ℕ) → slot_bits.IsFit e → IsDecodedSteady (decoded e w registers)
 unfolding decoded
 decoded-steady e w registers fit =
     let op = op-fits e e.fault fit in
-    record { pc = fit.1.1.0; op = op.code; rd = op.rd; rs1 = op.rs1; rs2 = op.rs2; imm = op.imm; count = delay-below (op_of_entry e).code }
+    record { pc = fit.1.1.0; op = op.code; rd = op.rd; rs1 = op.rs1; rs2 = op.rs2; imm = op.imm; count = delay_of-below (op_of_entry e).code }
 
 none-steady : IsDecodedSteady no_decoded
 none-steady = record { pc = lit< tt; op = lit< tt; rd = lit< tt; rs1 = lit< tt; rs2 = lit< tt; imm = lit< tt; count = lit< tt }

@@ -1,4 +1,4 @@
-use Rattle.avf_rows.proofs.faults.calls_that_fail.Given as goal
+use Rattle.avf_rows.proofs.fault_rows.calls_that_fail.Given as goal
 
 abbrev pub ghosts-all-L-Ledger : goal.ghosts-all-L-Ledger
 ghosts-all-L-Ledger g a = record { name = a.one.name; parts = a.one.parts }
