@@ -7,3 +7,5 @@ pub mod Front
 pub mod Widths
 pub mod Lasting
 pub mod Flipped
+pub mod Results
+pub mod Words

@@ -26,19 +26,17 @@ use Rattle.cyc_machine.specs.RegisterBits as counters
 use Rattle.elf_load.specs.Image.{IsImage}
 use Rattle.wb_cache.specs.Contents.{IsContents}
 use Rattle.cyc_machine.specs.Facts.{IsMachine}
-use Rattle.cyc_machine.specs.SizesLaw.{SizesLaw}
 use Rattle.cyc_machine.specs.State.{State}
-use Rattle.cyc_machine.specs.Strikes.{InRange, flip_at_place, flip_in}
-use Rattle.cyc_machine.proofs.Sizes.Lasting.{machine-reset, machine-steady, steady-next}
+use Rattle.cyc_machine.specs.Strikes.{InRange, flip_in}
 
 -- the parts of what holds of every machine
-made : (s : State) → IsImage s.image → length s.memory ≡ length s.image.ram → All (λ b. b < 2 ^ 8) s.memory → s.issued < 2 ^ 32 → IsContents s.cache
+pub made : (s : State) → IsImage s.image → length s.memory ≡ length s.image.ram → All (λ b. b < 2 ^ 8) s.memory → s.issued < 2 ^ 32 → IsContents s.cache
     → counters.IsCounterFit s.pc → counters.IsCounterFit s.npc → tables_bits.IsFit s.tables → ib_bits.IsFit s.buffer → idex_bits.IsFit s.d → exmem_bits.IsFit s.m
     → memwb_bits.IsFit s.w → counters.IsFileFit s.registers → sb_bits.IsFit s.stores → port_bits.IsFit s.port → IsMachine s
 made s image memory memory_bytes issued cache pc npc tables buffer d m w registers stores port =
     record { image = image; memory = memory; memory_bytes = memory_bytes; issued = issued; cache = cache; pc = pc; npc = npc; tables = tables; buffer = buffer; d = d; m = m; w = w; registers = registers; stores = stores; port = port }
 
-flip-keeps : (a : Structure) (s : State) (k : ℕ) → IsMachine s → k < bits_in a s.cache.shape → IsMachine (flip_in a s k)
+pub flip-keeps : (a : Structure) (s : State) (k : ℕ) → IsMachine s → k < bits_in a s.cache.shape → IsMachine (flip_in a s k)
 flip-keeps Pc s k f l =
     let here = registers.counter_laws.fit_stays s.pc k f.pc l in
     made (flip_in Pc s k) f.image f.memory f.memory_bytes f.issued f.cache here f.npc f.tables f.buffer f.d f.m f.w f.registers f.stores f.port
@@ -88,7 +86,7 @@ flip-keeps CLru s k f l =
     let here = cache_stays CLru s.cache k f.cache tt l in
     made (flip_in CLru s k) f.image f.memory f.memory_bytes f.issued here f.pc f.npc f.tables f.buffer f.d f.m f.w f.registers f.stores f.port
 
-in-range : (a : Structure) (s : State) (k : ℕ) (q : Place) → InRange s q → InRange (flip_in a s k) q
+pub in-range : (a : Structure) (s : State) (k : ℕ) (q : Place) → InRange s q → InRange (flip_in a s k) q
 in-range Pc s k q h = h
 in-range Npc s k q h = h
 in-range Bht s k q h = h
@@ -105,12 +103,3 @@ in-range CTag s k q h = h
 in-range CValid s k q h = h
 in-range CDirty s k q h = h
 in-range CLru s k q h = h
-
-pub sizes-law : SizesLaw
-sizes-law = record {
-  steady = machine-steady;
-  kept = steady-next;
-  reset_machine = machine-reset;
-  flip = λ s p is l. flip-keeps p.structure s p.bit is l;
-  place = λ s p q h. in-range p.structure s p.bit q h;
-}

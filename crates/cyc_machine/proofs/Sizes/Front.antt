@@ -1,6 +1,6 @@
 -- A cycle keeps the widths of what IF, ID and the predictor hold.
-use Rattle.std.proofs.Common.{◌≡◌, ℕ, ◌+◌, ◌-◌, ◌/◌, ◌%◌, ◌^◌, ◌<◌, ◌≤◌, Bool, true, false, List, [], ◌∷◌, ◌++◌, length, drop, replicate, arith, lit<, refl, ap, ◌∙◌, length-append, length-drop}
-use Rattle.std.specs.Prelude.{Option, Some, None, IfSome, not, ◌&&◌, nat_lt, pred, All, if◌then◌else◌, slice_get, slice_index, slice_index_or, slice_set}
+use Rattle.std.proofs.Common.{◌≡◌, ℕ, ◌+◌, ◌-◌, ◌/◌, ◌%◌, ◌^◌, ◌<◌, ◌≤◌, Bool, true, false, List, [], ◌∷◌, ◌++◌, length, drop, replicate, arith, lit<, refl, ◌∙◌, length-append, length-drop}
+use Rattle.std.specs.Prelude.{Option, Some, None, IfSome, not, ◌&&◌, nat_lt, pred, All, if◌then◌else◌, slice_get, slice_set}
 use Rattle.std.proofs.lemmas.Bool.Decides.{nat_tests}
 use Rattle.std.proofs.lemmas.List.Elements.{All-append, All-drop, All-filter, All-nil, All-push, All-replicate, All-set}
 use Rattle.std.proofs.Math.ListN.{length-set}
@@ -28,7 +28,7 @@ use Rattle.predictor.specs.TargetBits as targets_bits
 use Rattle.predictor.specs.Tables.{Tables, Target, counter_at, moved, no_target, predicted, predicts_taken, target_at, trained}
 use Rattle.cyc_machine.specs.declared.fate.Fate.{Fate}
 use Rattle.cyc_machine.specs.declared.fate.Fate.TheVariants.{Absent, Dropped, Stays, Goes}
-use Rattle.cyc_machine.specs.Pipeline.{counted, decoded, decoded_after, entries_after, fetched, entry_of_word, filled, if_room, lesson, npc_after, op_of_entry, pc_after, stalled, taken, trained_by}
+use Rattle.cyc_machine.specs.Pipeline.{counted, decoded, decoded_after, entries_after, fetched, entry_of_word, filled, if_room, lesson, npc_after, op_of_entry, pc_after, taken, trained_by}
 use Rattle.cyc_machine.specs.Sizes.{IsDecodedSteady}
 use Rattle.rv_table.proofs.DecodedFields.{decode-imm}
 

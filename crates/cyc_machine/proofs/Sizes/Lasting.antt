@@ -1,5 +1,5 @@
 -- What a cycle keeps of every machine's state, and what the laws of a cycle need of it.
-use Rattle.std.proofs.Common.{◌≡◌, ℕ, zero, suc, ◌+◌, ◌*◌, ◌/◌, ◌^◌, ◌<◌, All, arith, lit<, refl, ◌∙◌}
+use Rattle.std.proofs.Common.{◌≡◌, ℕ, zero, suc, ◌+◌, ◌*◌, ◌/◌, ◌^◌, ◌<◌, arith, lit<, refl, ◌∙◌}
 use Rattle.std.specs.Prelude.{Option, Some, None, IsSome}
 use Rattle.std.proofs.lemmas.List.Elements.{All-replicate}
 use Rattle.bit_field.specs.Shapes.{IsShape}
@@ -80,7 +80,7 @@ machine-steady s is = record {
   issued = is.issued;
 }
 
-abbrev contents : (s : State) → IsSteady s → IsContents s.cache
+abbrev pub contents : (s : State) → IsSteady s → IsContents s.cache
 contents s is = record { sized = is.cache; bytes = is.bytes.cache; widths = is.tags }
 
 counted-below : (f : Fate) (issued : ℕ) → issued < 2 ^ 32 → issued_after f issued < 2 ^ 32

@@ -1,5 +1,5 @@
 -- A cycle keeps the widths of what EX/MEM, MEM/WB, the register file, the port and the store buffer hold.
-use Rattle.std.proofs.Common.{[], ◌∷◌, ◌+◌, ◌-◌, ◌*◌, ◌/◌, ◌%◌, ◌^◌, replicate, lit<, refl, inl, inr, ◌≡◌, ℕ, ◌<◌, ◌≤◌, Bool, true, false, List, ◌++◌, length, arith, length-append}
+use Rattle.std.proofs.Common.{[], ◌∷◌, ◌-◌, ◌/◌, ◌%◌, replicate, lit<, refl, inl, inr, ◌≡◌, ℕ, ◌<◌, ◌≤◌, Bool, true, false, List, ◌++◌, length, arith, length-append}
 use Rattle.std.specs.Prelude.{◌≢◌, ◌⊎◌, All, Option, not, ◌&&◌, nat_lt, if◌then◌else◌}
 use Rattle.std.proofs.lemmas.Bool.Decides.{nat_tests}
 use Rattle.std.proofs.Math.ListN.{length-set}
