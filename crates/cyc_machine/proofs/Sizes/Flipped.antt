@@ -11,7 +11,7 @@ use Rattle.predictor.proofs.TargetLaws as targets
 use Rattle.pipe_latch.proofs.DecodedLaws as idex
 use Rattle.pipe_latch.proofs.ExecutedLaws as exmem
 use Rattle.pipe_latch.proofs.ResultLaws as memwb
-use Rattle.store_buf.proofs.FlipLaws as sb
+use Rattle.store_buf.proofs.BufferLaws as sb
 use Rattle.cyc_machine.proofs.RegisterLaws as registers
 use Rattle.cyc_machine.proofs.PortLaws as port
 use Rattle.wb_cache.proofs.Strikes.{cache_stays}
@@ -20,7 +20,7 @@ use Rattle.pipe_latch.specs.DecodedBits as idex_bits
 use Rattle.pipe_latch.specs.ExecutedBits as exmem_bits
 use Rattle.pipe_latch.specs.ResultBits as memwb_bits
 use Rattle.predictor.specs.Places as tables_bits
-use Rattle.store_buf.specs.Bits as sb_bits
+use Rattle.store_buf.specs.BufferBits as sb_bits
 use Rattle.cyc_machine.specs.PortBits as port_bits
 use Rattle.cyc_machine.specs.RegisterBits as counters
 use Rattle.elf_load.specs.Image.{IsImage}

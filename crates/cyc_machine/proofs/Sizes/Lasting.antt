@@ -13,7 +13,7 @@ use Rattle.inst_buf.specs.EntryBits as slot_bits
 use Rattle.predictor.specs.EntryBits as target_bits
 use Rattle.predictor.specs.Places as tables_bits
 use Rattle.predictor.specs.Tables.{fresh_tables, no_target, predicted}
-use Rattle.store_buf.specs.Bits as store_bits
+use Rattle.store_buf.specs.EntryBits as store_bits
 use Rattle.store_buf.specs.Entry.{no_entry as no_pending}
 use Rattle.store_buf.specs.Pending.{pending}
 use Rattle.store_buf.proofs.Packed.{length-packed, length-pending}
@@ -129,7 +129,7 @@ machine-reset image shape is fits = record {
   m = (lit< tt, (lit< tt, (lit< tt, (lit< tt, (lit< tt, (lit< tt, tt))))));
   w = (lit< tt, (lit< tt, tt));
   registers = (refl, All-replicate (λ v. v < 2 ^ 32) 31 0 (lit< tt));
-  stores = (refl, All-replicate store_bits.IsFitEntry 4 no_pending (lit< tt, (lit< tt, (lit< tt, tt))));
+  stores = (refl, All-replicate store_bits.IsFit 4 no_pending (lit< tt, (lit< tt, (lit< tt, tt))));
   port = (lit< tt, (lit< tt, tt));
 }
   where

@@ -4,7 +4,7 @@ use Rattle.std.specs.Prelude.{‚ä§, All, IfSome, Option, Some, None, slice_set, ‚
 use Rattle.std.proofs.lemmas.Bool.Decides.{nat_tests}
 use Rattle.std.proofs.lemmas.Nat.{mod_below}
 use Rattle.std.proofs.lemmas.List.Elements.{All-append, All-filter, All-nil, All-push, All-replicate, All-set, All-tail}
-use Rattle.bit_field.specs.Fields.{number_of}
+use Rattle.bit_field.specs.Layouts.{number_of}
 use Rattle.bit_field.specs.Shapes.{IsShape}
 use Rattle.bit_field.specs.declared.shapes.Shape.{Shape}
 use Rattle.elf_load.specs.Image.{LoadedImage, IsImage, executable, word_in_ram}
