@@ -14,6 +14,3 @@ pub use error::LoadError;
 pub use image::Image;
 pub use loader::{load, segments};
 pub use segment::Segment;
-
-#[cfg(test)]
-mod tests;
