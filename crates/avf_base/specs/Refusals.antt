@@ -1,5 +1,6 @@
 -- The status and the line of each refusal, and what it rests on.
-use Rattle.std.specs.Prelude.{ℕ, List, [], ◌∷◌, ◌++◌, codes, decimal}
+use Rattle.std.specs.Prelude.{ℕ, List, [], ◌∷◌, codes, decimal}
+use Rattle.std.specs.List.{concat}
 use Rattle.avf_base.specs.declared.refusal.Refusal.{Refusal}
 use Rattle.avf_base.specs.declared.refusal.Refusal.TheVariants.{Usage, ReadFault, BadImage, NoEnd, NoSuchBit, WriteFault, OutOfMemory, BadSource}
 
@@ -14,21 +15,16 @@ status_of WriteFault = 7
 status_of OutOfMemory = 8
 status_of (BadSource line cause) = 9
 
--- the pieces, one after another
-abbrev pub joined : List (List ℕ) → List ℕ
-joined [] = []
-joined (piece ∷ pieces) = piece ++ joined pieces
-
 -- the line that tells it on the standard error
 abbrev pub line_of : Refusal → List ℕ
 line_of Usage = codes "avf: usage\n"
 line_of ReadFault = codes "avf: read fault\n"
-line_of (BadImage k) = joined (codes "avf: bad image " ∷ decimal k ∷ codes "\n" ∷ [])
+line_of (BadImage k) = concat (codes "avf: bad image " ∷ decimal k ∷ codes "\n" ∷ [])
 line_of NoEnd = codes "avf: no end\n"
 line_of NoSuchBit = codes "avf: no such bit\n"
 line_of WriteFault = codes "avf: write fault\n"
 line_of OutOfMemory = codes "avf: out of memory\n"
-line_of (BadSource line cause) = joined (codes "avf: bad source " ∷ decimal line ∷ codes " " ∷ decimal cause ∷ codes "\n" ∷ [])
+line_of (BadSource line cause) = concat (codes "avf: bad source " ∷ decimal line ∷ codes " " ∷ decimal cause ∷ codes "\n" ∷ [])
 
 -- what stands behind a refusal
 pub data Cause : Type 0 where

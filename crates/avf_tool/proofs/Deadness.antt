@@ -5,7 +5,7 @@ use Rattle.std.specs.declared.alloc.Global.{Global}
 use Rattle.avf_base.specs.declared.refusal.Refusal.{Refusal}
 use Rattle.avf_base.specs.declared.refusal.Refusal.TheVariants.{Usage, ReadFault, BadImage, NoEnd, NoSuchBit, WriteFault, OutOfMemory, BadSource}
 use Rattle.elf_load.specs.Image.{LoadedImage}
-use Rattle.rv_isa.specs.Runs.{EndedRun as Trace, IsTrace}
+use Rattle.rv_isa.specs.Runs.{ProgramTrace as Trace, IsTrace}
 use Rattle.run_log.specs.Run.{RecordedRun}
 use Rattle.avf_tool.specs.Answers.{Answer, IsDeadText, IsText, Text}
 use Rattle.avf_tool.specs.Texts.{deadness_text}

@@ -6,9 +6,8 @@ use Rattle.elf_load.specs.Image.{LoadedImage}
 use Rattle.rv_isa.proofs.RunSteps.{after-on, after-stays}
 use Rattle.rv_isa.specs.Effects.{retired_at}
 use Rattle.rv_isa.specs.Instruction.{State, instruction}
-use Rattle.rv_isa.specs.Runs.{EndedRun as Trace, IsTrace, after, reset}
+use Rattle.rv_isa.specs.Runs.{ProgramTrace as Trace, IsTrace, after, reset, trace_at}
 use Rattle.rv_isa.specs.declared.effect.Retired.{Retired}
-use Rattle.flush_view.specs.Positions.{trace_at}
 use Rattle.flush_view.specs.RunLaw.{EndsAfter}
 use Rattle.avf_tool.specs.Texts.{program_text, run_text}
 use Rattle.avf_tool.specs.Traces.{ProgramRun, program_run, recorded}

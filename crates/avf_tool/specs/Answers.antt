@@ -11,7 +11,7 @@ use Rattle.elf_load.specs.Meaning.{image_of}
 use Rattle.elf_load.specs.Refusal.{first_refusal}
 use Rattle.flush_view.specs.RunLaw.{EndsAfter}
 use Rattle.run_log.specs.Run.{RecordedRun}
-use Rattle.rv_isa.specs.Runs.{EndedRun as Trace, IsTrace}
+use Rattle.rv_isa.specs.Runs.{ProgramTrace as Trace, IsTrace}
 use Rattle.avf_tool.specs.Traces.{ProgramRun, program_run}
 use Rattle.avf_tool.specs.Runs.{EndedRun, ended_run}
 use Rattle.avf_tool.specs.Texts.{deadness_text, program_text, shown}

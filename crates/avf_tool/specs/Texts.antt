@@ -1,7 +1,7 @@
 -- The texts of the short commands.
 use Rattle.std.specs.Prelude.{ℕ, Option, Some, None, List, [], ◌∷◌, codes, count_by, decimal, length}
 use Rattle.hex.specs.Hex.{encode_lower}
-use Rattle.avf_base.specs.Refusals.{joined}
+use Rattle.std.specs.List.{concat}
 use Rattle.avf_base.specs.declared.end.End.{End}
 use Rattle.avf_base.specs.declared.end.End.TheVariants.{Exit, Trap}
 use Rattle.rv_isa.specs.declared.effect.Retired.{Retired}
@@ -28,7 +28,7 @@ end_number (Trap n) = n
 
 -- `run`: what the program put, how it ended, and how many instructions were retired, the ending one included
 abbrev pub run_text : List ℕ → End → ℕ → List ℕ
-run_text output end instructions = joined (
+run_text output end instructions = concat (
     codes "output " ∷ output_text output
     ∷ codes "\nend " ∷ end_word end ∷ codes " " ∷ decimal (end_number end)
     ∷ codes "\ninstructions " ∷ decimal instructions ∷ codes "\n" ∷ [])
@@ -62,23 +62,23 @@ dead_counts instructions classes = record {
 
 -- `dead`: how many instructions there were, and how many of each class
 abbrev pub needed_lines : DeadCounts → List ℕ
-needed_lines counts = joined (
+needed_lines counts = concat (
     codes "instructions " ∷ decimal counts.instructions
     ∷ codes "\nneeded " ∷ decimal counts.needed
     ∷ codes "\nnop " ∷ decimal counts.nop ∷ codes "\n" ∷ [])
 
 abbrev pub register_lines : DeadCounts → List ℕ
-register_lines counts = joined (
+register_lines counts = concat (
     codes "fdd-reg " ∷ decimal counts.fdd_reg
     ∷ codes "\ntdd-reg " ∷ decimal counts.tdd_reg ∷ codes "\n" ∷ [])
 
 abbrev pub memory_lines : DeadCounts → List ℕ
-memory_lines counts = joined (
+memory_lines counts = concat (
     codes "fdd-mem " ∷ decimal counts.fdd_mem
     ∷ codes "\ntdd-mem " ∷ decimal counts.tdd_mem ∷ codes "\n" ∷ [])
 
 abbrev pub dead_text : DeadCounts → List ℕ
-dead_text counts = joined (needed_lines counts ∷ register_lines counts ∷ memory_lines counts ∷ [])
+dead_text counts = concat (needed_lines counts ∷ register_lines counts ∷ memory_lines counts ∷ [])
 
 -- the same of a trace's instructions
 abbrev pub deadness_text : List Retired → List ℕ

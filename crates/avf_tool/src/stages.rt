@@ -3,7 +3,7 @@ ghost use Rattle.std.specs.Prelude.{◌≡◌, ◌≢◌, ◌≤◌, List, ℕ, 
 ghost use Rattle.avf_base.specs.Refusals.{ByContents, cause_of};
 ghost use Rattle.avf_base.specs.declared.refusal.Refusal.TheVariants.{BadImage};
 ghost use Rattle.bit_field.specs.Shapes.{IsShape};
-ghost use Rattle.flush_view.specs.Positions.{trace_at};
+ghost use Rattle.rv_isa.specs.Runs.{trace_at};
 ghost use Rattle.avf_tool.specs.Answers.{IsLoaded, IsRead, Ran, Traced, image_limit, ram_size};
 
 use avf_base::{ReadError, Refusal, Shelf, Steps, read_file};

@@ -37,5 +37,7 @@ pub trait Struck {
     fn fits(&self)
         ensures { IsFit self.now };
 
-    ghost laws: { FlipLaws IsFit bit_count bit_of flipped };
+    /// Changes nothing; says that the laws of a flip hold of all values of the type.
+    fn laws(&self)
+        ensures { FlipLaws IsFit bit_count bit_of flipped };
 }

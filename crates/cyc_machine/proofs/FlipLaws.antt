@@ -1,19 +1,18 @@
 -- A flip at a place, structure by structure.
 use Rattle.std.proofs.Common.{◌≡◌, ◌≢◌, ℕ, ◌-◌, ◌<◌, refl, ap}
 use Rattle.bit_field.specs.Shapes.{bits_in}
-use Rattle.bit_field.specs.declared.places.Place.{Place}
 use Rattle.bit_field.specs.declared.places.Structure.{Structure}
 use Rattle.bit_field.specs.declared.places.Structure.TheVariants.{Pc, Npc, Bht, Btb, Ib, IdEx, ExMem, MemWb, Rf, Sb, Port, CData, CTag, CValid, CDirty, CLru}
-use Rattle.inst_buf.specs.BufferBits as ib
-use Rattle.predictor.specs.HistoryBits as history
-use Rattle.predictor.specs.TargetBits as targets
-use Rattle.pipe_latch.specs.DecodedLaws as idex
-use Rattle.pipe_latch.specs.ExecutedLaws as exmem
-use Rattle.pipe_latch.specs.ResultLaws as memwb
-use Rattle.store_buf.specs.Laws as sb
+use Rattle.inst_buf.proofs.BufferLaws as ib
+use Rattle.predictor.proofs.HistoryLaws as history
+use Rattle.predictor.proofs.TargetLaws as targets
+use Rattle.pipe_latch.proofs.DecodedLaws as idex
+use Rattle.pipe_latch.proofs.ExecutedLaws as exmem
+use Rattle.pipe_latch.proofs.ResultLaws as memwb
+use Rattle.store_buf.proofs.FlipLaws as sb
 use Rattle.wb_cache.proofs.Strikes.{cache_flips_it, cache_flips_no_other, cache_restores}
-use Rattle.cyc_machine.specs.RegisterBits as registers
-use Rattle.cyc_machine.specs.PortBits as port
+use Rattle.cyc_machine.proofs.RegisterLaws as registers
+use Rattle.cyc_machine.proofs.PortLaws as port
 use Rattle.cyc_machine.specs.Facts.{IsMachine}
 use Rattle.cyc_machine.specs.FlipLaw.{FlipsBack, FlipsNoOther, FlipsThatBit}
 use Rattle.cyc_machine.specs.State.{State}

@@ -1,10 +1,10 @@
 -- One cycle of the machine: each structure's next value, main memory, and what is reported, from the whole old state.
-use Rattle.std.specs.Prelude.{ℕ, ◌+◌, ◌/◌, ◌%◌, ◌&&◌, Bool, is_some, Option, Some, None}
+use Rattle.std.specs.Prelude.{ℕ, ◌+◌, ◌/◌, ◌%◌, ◌&&◌, Bool, is_some, if◌then◌else◌, Option, Some, None}
 use Rattle.avf_base.specs.declared.end.End.{End}
 use Rattle.rv_table.specs.Accesses.{lane_mask, load_size}
 use Rattle.rv_table.specs.Effects.{byte_put}
 use Rattle.rv_table.specs.declared.action.Action.{Action}
-use Rattle.rv_table.specs.declared.action.Action.TheVariants.{Loads}
+use Rattle.rv_table.specs.declared.action.Action.TheVariants.{Loads, Nothing}
 use Rattle.rv_isa.specs.Instruction.{end_of}
 use Rattle.pipe_latch.specs.Latches.{DecodedLatch}
 use Rattle.pipe_latch.specs.LatchedActions.{action_of}
@@ -37,32 +37,37 @@ move s = move_of s.port s.cache (load_client s.image (action_in_m s) (pending s.
 abbrev pub served_m : State → Served
 served_m s = served s.image (action_in_m s) (pending s.stores) (word_read (move s) s.cache)
 
+-- what the memory stage is done with in this cycle
+abbrev pub done_in : State → Action
+done_in s = if (served_m s).goes then action_in_m s else Nothing
+
 -- what becomes of ID/EX
 abbrev pub fate : State → Fate
 fate s = fate_of s.d s.npc (action_in_m s) s.w (served_m s).goes
 
+-- the word address that is fetched next
 abbrev pub next_fetch : Fate → State → ℕ
-next_fetch f s = pc_after f (predicted s.tables s.pc) (entries s.buffer) s.npc s.pc
+next_fetch fate s = pc_after fate (predicted s.tables s.pc) (entries s.buffer) s.npc s.pc
 
 -- The next state. Each part has one equation over the whole old state.
 unfoldable pub cycled : Fate → Move → Served → State → State
-cycled f v m s =
+cycled fate move served s =
     record {
       image = s.image;
-      pc = next_fetch f s;
-      npc = npc_after f s.d s.cycle s.issued s.npc;
-      tables = trained_by (lesson f s.d s.cycle s.issued) s.d.pc s.tables;
-      buffer = packed_entries (entries_after s.image f s.pc (entries s.buffer));
-      d = decoded_after f s.d (entries s.buffer) s.w s.registers;
-      m = executed_after s.image f m.goes s.d s.cycle s.issued s.m;
-      w = result_after (action_in_m s) m;
+      pc = next_fetch fate s;
+      npc = npc_after fate s.d s.cycle s.issued s.npc;
+      tables = trained_by (lesson fate s.d s.cycle s.issued) s.d.pc s.tables;
+      buffer = packed_entries (entries_after s.image fate s.pc (entries s.buffer));
+      d = decoded_after fate s.d (entries s.buffer) s.w s.registers;
+      m = executed_after s.image fate served.goes s.d s.cycle s.issued s.m;
+      w = result_after (action_in_m s) served;
       registers = written_registers s.w s.registers;
-      stores = packed_stores (stores_after s.image (action_in_m s) v (pending s.stores));
-      port = port_after v s.port;
-      cache = cache_after s.image v s.memory s.cache;
-      memory = memory_after s.image v s.cache s.memory;
+      stores = packed_stores (stores_after s.image (action_in_m s) move (pending s.stores));
+      port = port_after move s.port;
+      cache = cache_after s.image move s.memory s.cache;
+      memory = memory_after s.image move s.cache s.memory;
       cycle = s.cycle + 1;
-      issued = issued_after f s.issued;
+      issued = issued_after fate s.issued;
       ended = is_some (end_of (action_in_m s));
     }
 

@@ -1,5 +1,5 @@
 -- The law of strikes: what a flip at a place changes, for every state that a machine can be in.
-use Rattle.std.specs.Prelude.{◌≡◌, ◌≢◌, ℕ, ◌-◌}
+use Rattle.std.specs.Prelude.{◌≡◌, ◌≢◌, ◌-◌}
 use Rattle.bit_field.specs.declared.places.Place.{Place}
 use Rattle.cyc_machine.specs.Facts.{IsMachine}
 use Rattle.cyc_machine.specs.State.{State}

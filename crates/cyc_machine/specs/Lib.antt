@@ -1,13 +1,17 @@
+pub mod Busy
 pub mod Cycle
 pub mod Facts
 pub mod FlipLaw
+pub mod InFlight
 pub mod Memory
 pub mod Parts
 pub mod Pipeline
 pub mod PortBits
 pub mod PortState
 pub mod RegisterBits
+pub mod Reports
 pub mod Run
+pub mod Sizes
 pub mod State
 pub mod Strikes
 pub mod Turn

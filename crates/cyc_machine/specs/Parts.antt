@@ -1,4 +1,4 @@
--- The machine's parts as one state.
+-- Scaffolding for the contracts of private functions: the machine's parts as one state.
 use Rattle.cyc_machine.specs.State.{State}
 use Rattle.cyc_machine.specs.declared.parts.Parts.{Parts}
 

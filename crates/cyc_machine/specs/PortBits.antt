@@ -1,9 +1,6 @@
 -- The bits of the port's latch: count 0 to 4, owner 5 (0 load, 1 store).
-use Rattle.std.specs.Prelude.{◌≡◌, ℕ, Bool, List, [], ◌∷◌, slice_index}
-use Rattle.std.proofs.Common.{ap, sym, ◌∙◌}
-use Rattle.bit_field.specs.Fields.{flip_field, flip_bool, number_of, flip_row, bit_of_row, IsRow}
-use Rattle.bit_field.specs.Laws.{FlipLaws}
-use Rattle.bit_field.proofs.Rows.{laws_by_row, number_of-flip_bool, is_one, is_one-number_of}
+use Rattle.std.specs.Prelude.{ℕ, List, [], ◌∷◌}
+use Rattle.bit_field.specs.Fields.{flip_field, flip_bool, number_of, bit_of_row, IsRow}
 use Rattle.cyc_machine.specs.PortState.{PortState}
 
 abbrev pub widths : List ℕ
@@ -11,9 +8,6 @@ widths = 5 ∷ 1 ∷ []
 
 abbrev pub values : PortState → List ℕ
 values x = x.count ∷ number_of x.owner ∷ []
-
-abbrev pub from_values : List ℕ → PortState
-from_values vs = record { count = slice_index vs 0; owner = is_one (slice_index vs 1) }
 
 abbrev pub IsFit : PortState → Type 0
 IsFit x = IsRow widths (values x)
@@ -23,15 +17,3 @@ bit_of x k = bit_of_row 0 widths (values x) k
 
 abbrev pub flipped : PortState → ℕ → PortState
 flipped x k = record { count = flip_field 0 5 x.count k; owner = flip_bool 5 x.owner k }
-
-flips : (x : PortState) (k : ℕ) → values (flipped x k) ≡ flip_row 0 widths (values x) k
-flips x k = let e = number_of-flip_bool 5 x.owner k in cc
-
-from_values-values : (x : PortState) → from_values (values x) ≡ x
-from_values-values x = ap (λ (o : Bool). record x { owner = o }) (is_one-number_of x.owner)
-
-same_values : (x y : PortState) → values x ≡ values y → x ≡ y
-same_values x y e = sym (from_values-values x) ∙ ap from_values e ∙ from_values-values y
-
-pub laws : FlipLaws IsFit (λ _. 6) bit_of flipped
-laws = laws_by_row widths values flipped flips same_values

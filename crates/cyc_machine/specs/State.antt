@@ -16,17 +16,17 @@ pub record State : Type 0 where
   pub npc : ℕ  -- word address of the instruction after the last one that left EX
   pub tables : Tables  -- the predictor's
   pub buffer : List Fetched  -- the four slots of the instruction buffer
-  pub d : DecodedLatch
-  pub m : ExecutedLatch
-  pub w : ResultLatch
+  pub d : DecodedLatch  -- the latch ID/EX
+  pub m : ExecutedLatch  -- the latch EX/MEM
+  pub w : ResultLatch  -- the latch MEM/WB
   pub registers : List ℕ  -- registers 1 to 31
   pub stores : List Pending  -- the four slots of the store buffer
-  pub port : PortState
-  pub cache : Contents
+  pub port : PortState  -- the latch of the cache's port
+  pub cache : Contents  -- the lines, and which way of a set is replaced next
   pub memory : List ℕ  -- main memory, from the image's base on
   pub cycle : ℕ  -- the number of this cycle
-  pub issued : ℕ  -- instructions that left EX
-  pub ended : Bool
+  pub issued : ℕ  -- instructions that left EX, modulo 2^32
+  pub ended : Bool  -- whether the run has ended
 
 -- before the first cycle
 unfoldable pub reset : LoadedImage → Shape → State

@@ -1,4 +1,5 @@
--- The way through a cycle: M's turn at memory, and the states in which some parts have taken their next values.
+-- Scaffolding for the contracts of private functions, of which the meaning of a cycle says nothing: M's turn at memory, and the
+-- states in which some parts have taken their next values.
 use Rattle.cyc_machine.specs.declared.parts.Turn.{Turn}
 use Rattle.cyc_machine.specs.Cycle.{action_in_m, event_in, move, served_m}
 use Rattle.cyc_machine.specs.State.{State}

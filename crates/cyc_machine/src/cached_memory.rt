@@ -8,7 +8,7 @@ use wb_cache::Cache;
 
 /// The cache, and main memory from the image's base on.
 #[derive(Drop)]
-pub struct CachedMemory {
+pub(crate) struct CachedMemory {
     pub cache: Cache,
     pub memory: Vec<u8>,
 }

@@ -3,18 +3,20 @@
 ghost use Rattle.cyc_machine.specs.FlipLaw.{FlipsBack, FlipsNoOther, FlipsThatBit};
 
 use crate::machine::Machine;
-use bit_field::Struck;
+use bit_field::{Struck, bytes_fit};
 
 impl Machine<'_> {
     ghost use Rattle.cyc_machine.specs.Facts.{IsMachine};
 
-    /// Changes nothing; says what holds of every machine: the sizes and widths of its structures, and the length of main
-    /// memory.
+    /// Changes nothing; says what holds of every machine: the sizes and widths of its structures, the length of main memory
+    /// and that it holds bytes.
     pub fn is_machine(&self)
         ensures { IsMachine self.now }
     {
         self.parts.image.is_image();
         self.parts.storage.cache.is_cache();
+        bytes_fit(&self.parts.storage.memory);
+        let _issued = self.parts.issued;
         self.parts.pc.fits();
         self.parts.npc.fits();
         self.parts.predictor.fits();

@@ -19,12 +19,10 @@ mod registers;
 mod report;
 mod strikes;
 
-pub use cached_memory::CachedMemory;
 pub use facts::flip_law;
 pub use fate::Fate;
 pub use machine::Machine;
 pub use memory_stage::Served;
-pub use parts::Parts;
 pub use port::{Move, PortLatch};
 pub use registers::{ProgramCounter, RegisterFile};
 pub use report::CycleReport;

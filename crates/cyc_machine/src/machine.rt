@@ -40,7 +40,7 @@ impl<'i> Machine<'i> {
     ghost use Rattle.bit_field.specs.Shapes.{IsShape};
     ghost use Rattle.bit_field.specs.Shapes as shapes;
     ghost use Rattle.cyc_machine.specs.State.{reset};
-    ghost use Rattle.cyc_machine.specs.Cycle as cycles;
+    ghost use Rattle.cyc_machine.specs.Reports.{IsCycle};
 
     /// A machine of the plain shape at reset on an image.
     pub fn new(alloc: Global, image: &'i Image) -> Result<Machine<'i>, OutOfMemory>
@@ -90,12 +90,7 @@ impl<'i> Machine<'i> {
     pub fn step<L: Ledger>(&mut self, steps: &mut Steps<L>) -> CycleReport
         requires running { self.old.ended ≡ false }
         requires cycles { self.old.cycle < 2 ^ 31 }
-        ensures state { self.new ≡ cycles.cycle self.old }
-        ensures put { result.put ≡ cycles.put_in self.old }
-        ensures issued { result.issued ≡ cycles.issued_from (cycles.fate self.old) self.old.d }
-        ensures retired { result.retired ≡ cycles.retires self.old }
-        ensures event { result.event ≡ cycles.event_in self.old }
-        ensures end { result.end ≡ cycles.end_in self.old }
+        ensures cycle { IsCycle self.old self.new result }
         ensures steps { steps.new ≡ steps.old + 1 }
     {
         self.parts.step(steps)

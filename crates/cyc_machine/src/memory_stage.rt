@@ -10,7 +10,7 @@ ghost use Rattle.cyc_machine.specs.Memory as memory_side;
 use crate::port::{Move, PortLatch};
 use elf_load::Image;
 use pipe_latch::MemWb;
-use rv_table::{Action, LoadKind, StoreKind, load_value, store_word};
+use rv_table::{Action, LoadKind, StoreKind, loaded, store_word};
 use store_buf::{Cover, Pending, StoreBuf};
 use wb_cache::Cache;
 
@@ -28,21 +28,21 @@ pub fn load_client(image: &Image, action: &Action, stores: &StoreBuf) -> Option<
     ensures within { ForSome result (λ word. word < 2 ^ 30) }
 {
     match action {
-        Action::Loads { kind, place, .. } => load_word(image, *kind, *place, stores),
+        Action::Loads { kind, address, .. } => load_word(image, *kind, *address, stores),
         _ => None,
     }
 }
 
 #[tactic(auto, unfolding(crate::specs::Memory::asked_word))]
-fn load_word(image: &Image, kind: LoadKind, place: u32, stores: &StoreBuf) -> Option<u32>
-    ensures client { result ≡ memory_side.asked_word image.now kind place (pending stores.now) }
+fn load_word(image: &Image, kind: LoadKind, address: u32, stores: &StoreBuf) -> Option<u32>
+    ensures client { result ≡ memory_side.asked_word image.now kind address (pending stores.now) }
     ensures within { ForSome result (λ word. word < 2 ^ 30) }
 {
-    let word = place / 4;
+    let word = address / 4;
     if !image.word_in_ram(word) {
         return None;
     }
-    match stores.cover(word, kind.lanes(place)) {
+    match stores.cover(word, kind.lanes(address)) {
         Cover::None => Some(word),
         Cover::Full(_) | Cover::Part => None,
     }
@@ -213,9 +213,11 @@ pub fn serve(image: &Image, action: &Action, stores: &StoreBuf, word: Option<u32
     ensures { result ≡ memory_side.served image.now action.now (pending stores.now) word }
 {
     match action {
-        Action::Loads { kind, place, .. } => served_by(loaded(image, *kind, *place, stores, word)),
-        Action::Stores { place, .. } => Served {
-            goes: has_room(image, *place / 4, stores),
+        Action::Loads { kind, address, .. } => served_by(load_value(
+            image, *kind, *address, stores, word,
+        )),
+        Action::Stores { address, .. } => Served {
+            goes: has_room(image, *address / 4, stores),
             value: 0,
         },
         Action::Writes { value, .. } => Served {
@@ -255,23 +257,23 @@ fn has_room(image: &Image, word: u32, stores: &StoreBuf) -> bool
 
 // The value of M's load, if it is done.
 #[tactic(auto, unfolding(crate::specs::Memory::load_value))]
-fn loaded(
+fn load_value(
     image: &Image,
     kind: LoadKind,
-    place: u32,
+    address: u32,
     stores: &StoreBuf,
     word: Option<u32>,
 ) -> Option<u32>
-    ensures { result ≡ memory_side.load_value image.now kind place (pending stores.now) word }
+    ensures { result ≡ memory_side.load_value image.now kind address (pending stores.now) word }
 {
-    if !image.word_in_ram(place / 4) {
+    if !image.word_in_ram(address / 4) {
         return Some(0);
     }
-    match stores.cover(place / 4, kind.lanes(place)) {
-        Cover::Full(word) => Some(load_value(kind, place, word)),
+    match stores.cover(address / 4, kind.lanes(address)) {
+        Cover::Full(word) => Some(loaded(kind, address, word)),
         Cover::Part => None,
         Cover::None => match word {
-            Some(word) => Some(load_value(kind, place, word)),
+            Some(word) => Some(loaded(kind, address, word)),
             None => None,
         },
     }
@@ -352,9 +354,13 @@ fn append(stores: &mut StoreBuf, image: &Image, action: &Action, room: bool)
     ensures { stores.new ≡ packed (pending stores.old ++ memory_side.appended image.now action.now room) }
 {
     match action {
-        Action::Stores { kind, place, value } => {
-            if room && image.word_in_ram(*place / 4) {
-                stores.push(pending_store(*kind, *place, *value));
+        Action::Stores {
+            kind,
+            address,
+            value,
+        } => {
+            if room && image.word_in_ram(*address / 4) {
+                stores.push(pending_store(*kind, *address, *value));
             } else {
                 stores.ripple();
             }
@@ -363,13 +369,13 @@ fn append(stores: &mut StoreBuf, image: &Image, action: &Action, room: bool)
     }
 }
 
-fn pending_store(kind: StoreKind, place: u32, value: u32) -> Pending
-    ensures entry { result ≡ memory_side.entry_of kind place value }
+fn pending_store(kind: StoreKind, address: u32, value: u32) -> Pending
+    ensures entry { result ≡ memory_side.entry_of kind address value }
     ensures some { 0 < result.mask }
 {
     Pending {
-        mask: kind.lanes(place),
-        addr: place / 4,
-        value: store_word(kind, place, value),
+        mask: kind.lanes(address),
+        addr: address / 4,
+        value: store_word(kind, address, value),
     }
 }

@@ -22,7 +22,7 @@ use wb_cache::CacheEvent;
 
 /// The sixteen structures, main memory, and the numbers that go with a run.
 #[derive(Drop)]
-pub struct Parts<'i> {
+pub(crate) struct Parts<'i> {
     pub image: &'i Image,
     pub pc: ProgramCounter,
     pub npc: ProgramCounter,
@@ -55,6 +55,7 @@ impl Parts<'_> {
     ghost use Rattle.cyc_machine.specs.Parts.{state_of};
     ghost use Rattle.cyc_machine.specs.Memory.{move_count};
     ghost use Rattle.cyc_machine.specs.Cycle as cycles;
+    ghost use Rattle.cyc_machine.specs.Reports.{IsCycle};
     ghost use Rattle.cyc_machine.specs.Turn as turns;
 
     /// One clock cycle: every part takes its next value, which is worked out from the whole old state.
@@ -62,13 +63,8 @@ impl Parts<'_> {
     pub fn step<L: Ledger>(&mut self, steps: &mut Steps<L>) -> CycleReport
         requires size { length self.old.storage.memory.items ≡ length self.old.image.now.ram }
         requires cycles { self.old.cycle < 2 ^ 31 }
-        ensures state { state_of self.new ≡ cycles.cycle (state_of self.old) }
+        ensures cycle { IsCycle (state_of self.old) (state_of self.new) result }
         ensures size { length self.new.storage.memory.items ≡ length self.new.image.now.ram }
-        ensures put { result.put ≡ cycles.put_in (state_of self.old) }
-        ensures issued { result.issued ≡ cycles.issued_from (cycles.fate (state_of self.old)) self.old.decoded }
-        ensures retired { result.retired ≡ cycles.retires (state_of self.old) }
-        ensures event { result.event ≡ cycles.event_in (state_of self.old) }
-        ensures end { result.end ≡ cycles.end_in (state_of self.old) }
         ensures steps { steps.new ≡ steps.old + 1 }
     {
         steps.tick();

@@ -36,8 +36,6 @@ impl Struck for PortLatch {
 
     ghost flipped = { port_bits.flipped };
 
-    ghost laws = { port_bits.laws };
-
     fn bits(&self) -> u32 {
         6
     }
@@ -58,6 +56,8 @@ impl Struck for PortLatch {
     fn fits(&self) {
         let _count = self.count;
     }
+
+    fn laws(&self) {}
 }
 
 /// What the port does in a cycle, and with which way of the set. Words and lines are word and line addresses.

@@ -35,8 +35,6 @@ impl Struck for ProgramCounter {
 
     ghost flipped = { counter.counter_flipped };
 
-    ghost laws = { counter.counter_laws };
-
     fn bits(&self) -> u32 {
         30
     }
@@ -52,6 +50,8 @@ impl Struck for ProgramCounter {
     fn fits(&self) {
         let _word = self.word;
     }
+
+    fn laws(&self) {}
 }
 
 impl ProgramCounter {
@@ -91,8 +91,6 @@ impl Struck for RegisterFile {
 
     ghost flipped = { file.file_flipped };
 
-    ghost laws = { file.file_laws };
-
     fn bits(&self) -> u32 {
         992
     }
@@ -108,6 +106,8 @@ impl Struck for RegisterFile {
     fn fits(&self) {
         words_fit(&self.values);
     }
+
+    fn laws(&self) {}
 }
 
 impl RegisterFile {

@@ -137,7 +137,7 @@ fn lanes_of(action: &Action) -> u8
     ensures { result ≡ cycles.lanes_of action.now }
 {
     match action {
-        Action::Loads { kind, place, .. } => kind.lanes(*place),
+        Action::Loads { kind, address, .. } => kind.lanes(*address),
         _ => 0,
     }
 }

@@ -7,7 +7,7 @@ use Rattle.std.proofs.lemmas.Bool.Decides.{nat_tests}
 use Rattle.std.proofs.lemmas.Nat.Bits.{bit_at-lt}
 use Rattle.need_pass.specs.Links.{Link, writes, is_register}
 use Rattle.need_pass.specs.Needed.{Root, Needed as IsNeeded}
-use Rattle.need_pass.specs.Places.{Place, Register, Byte}
+use Rattle.need_pass.specs.ProgramBits.{ProgramBit, Register, Byte}
 use Rattle.need_pass.specs.Tables.{Needs, IsNeedOf, reg_need}
 use Rattle.rv_isa.specs.declared.effect.Retired.{Retired}
 use Rattle.dead_class.specs.Classes.{reads, some_needed, is_nop, may_die, register_readers, bytes_readers, by_readers, stored_class, value_class, class_of, classes_of}
@@ -25,7 +25,7 @@ root_reads : (i : Retired) (r k : ℕ) → 0 < r → Root i (Register r k) → r
 unfolding Root
 root_reads i r k pos root = reads_operand i r pos (elim root [ inl a ↦ inl a.0 | inr b ↦ inr b.0 ])
 
-link_reads : (i : Retired) (r k : ℕ) (q : Place) → 0 < r → Link i (Register r k) q → (reads i r ≡ true) ⊎ ((writes i r ≡ false) × (q ≡ Register r k))
+link_reads : (i : Retired) (r k : ℕ) (q : ProgramBit) → 0 < r → Link i (Register r k) q → (reads i r ≡ true) ⊎ ((writes i r ≡ false) × (q ≡ Register r k))
 unfolding Link
 link_reads i r k (Register s j) pos link =
     elim link [

@@ -1,4 +1,3 @@
-pub mod Steady
 pub mod Memory
 pub mod Flush
 pub mod Progress

@@ -3,10 +3,9 @@
 --   Ways: the way that holds a line, after one slot is replaced.
 --   FoundByte: the byte that the cache finds, else main memory's.
 --   Drain: a store written into the way that holds its line; Fill: a line read into a way, whose old line is written back.
---   Tells: what a move of the port tells of the clients and of the cache; MovedSlots: the move as a change of slots and of memory.
+--   MovedSlots: a move of the port as a change of slots and of memory.
 -- The pending stores:
 --   FourSlots: those of the four slots, the free ones left out; Overlay: what they are over a byte below.
---   PendingNext: those after a cycle.
 -- The law:
 --   SlotLaw: coherence and view after a move, over slots and lists; Loads, Given: what a done action gives its register.
 --   MemoryLaw: the machine's cycle.
@@ -14,11 +13,9 @@ pub mod Ways
 pub mod FoundByte
 pub mod Drain
 pub mod Fill
-pub mod Tells
 pub mod MovedSlots
 pub mod FourSlots
 pub mod Overlay
-pub mod PendingNext
 pub mod SlotLaw
 pub mod Loads
 pub mod Given

@@ -1,10 +1,9 @@
 -- Avoiding a set X of lines: no access in them.
 use Rattle.std.specs.Prelude.{◌≡◌, ⊤, ℕ, ◌/◌, Bool, false, List, [], ◌∷◌, Option, Some, None, if◌then◌else◌}
-use Rattle.elf_load.specs.Image.{LoadedImage}
-use Rattle.rv_table.specs.Actions.{with_counter}
 use Rattle.rv_table.specs.declared.action.Action.{Action}
 use Rattle.rv_table.specs.declared.action.Action.TheVariants.{Loads, Stores}
-use Rattle.rv_isa.specs.Instruction.{State as Arch, Log, action_in, first_clock, op_at, reg}
+use Rattle.rv_isa.specs.Accesses.{next_action}
+use Rattle.rv_isa.specs.Instruction.{State as Arch, Log}
 use Rattle.cyc_machine.specs.State.{State}
 use Rattle.flush_view.specs.Flush.{flush}
 
@@ -25,12 +24,6 @@ Avoids out done = IsOutside out (place_of done)
 abbrev pub AvoidsAll : (ℕ → Bool) → List Action → Type 0
 AvoidsAll out [] = ⊤
 AvoidsAll out (done ∷ actions) = Avoids out done × AvoidsAll out actions
-
--- what the instruction at the address reached does
-abbrev pub next_action : LoadedImage → Arch → Action
-next_action image at =
-    let op = op_at image at.pc in
-    action_in image op at.pc (reg at.registers op.rs1) (with_counter op (first_clock at.clocks) at.count (reg at.registers op.rs2))
 
 -- Neither what the log says, nor anything that the flush completes, nor, where the flush hasn't ended, the instruction at its
 -- address accesses a line of X.

@@ -1,35 +1,21 @@
 -- The flush: the state of the instruction set's run that a machine state stands for. It completes what MEM/WB and EX/MEM hold
 -- and then what stands on the path, in order. After Burch and Dill, CAV 1994. No code computes it.
-use Rattle.std.specs.Prelude.{ℕ, ◌+◌, ◌==◌, ◌&&◌, Bool, false, is_none, List, [], ◌∷◌, map, None, if◌then◌else◌}
+use Rattle.std.specs.Prelude.{ℕ, ◌+◌, Bool, false, List, [], ◌∷◌, map, None, if◌then◌else◌}
 use Rattle.elf_load.specs.Image.{LoadedImage}
 use Rattle.rv_table.specs.Actions.{is_clocked}
 use Rattle.rv_table.specs.declared.op.Op.{Op}
 use Rattle.rv_table.specs.declared.action.Action.{Action}
-use Rattle.rv_isa.specs.Instruction.{State as Arch, Log, completed, given, performed, put_reg, reg}
-use Rattle.pipe_latch.specs.Forwarding.{operand, settled}
+use Rattle.rv_isa.specs.Instruction.{State as Arch, Log, reg}
 use Rattle.pipe_latch.specs.Latches.{DecodedLatch, ResultLatch, op_of_latch}
 use Rattle.inst_buf.specs.Buffer.{entries}
 use Rattle.inst_buf.specs.Entry.{Entry}
 use Rattle.cyc_machine.specs.declared.fate.Fate.{Fate}
 use Rattle.cyc_machine.specs.declared.fate.Fate.TheVariants.{Goes}
 use Rattle.cyc_machine.specs.Cycle.{action_in_m, fate}
+use Rattle.cyc_machine.specs.InFlight.{Item, completed_item, is_reached, item_of_latch, latches_completed}
 use Rattle.cyc_machine.specs.Pipeline.{op_of_entry, register}
 use Rattle.cyc_machine.specs.State.{State}
 use Rattle.flush_view.specs.Views.{view}
-
--- What stands on the path: the word address where it expects to be, its operation, and its operands by the registers.
-pub record Item : Type 0 where
-  pub pc : ℕ
-  pub op : Op
-  pub a : (ℕ → ℕ) → ℕ
-  pub b : (ℕ → ℕ) → ℕ
-
-abbrev pub completed_item : LoadedImage → Item → Arch → Arch
-completed_item image item at = completed image item.op item.pc (item.a at.registers) (item.b at.registers) at
-
--- no end has come, and the item is at the address reached
-abbrev pub is_reached : Item → Arch → Bool
-is_reached item at = is_none at.stop && item.pc == at.pc
 
 -- completes the items in order, up to the first that isn't reached
 unfoldable pub completed_path : LoadedImage → List Item → Arch → Arch
@@ -42,20 +28,6 @@ unfoldable pub completed_count : LoadedImage → List Item → Arch → ℕ
 completed_count image [] at = 0
 completed_count image (item ∷ items) at =
     if is_reached item at then completed_count image items (completed_item image item at) + 1 else 0
-
--- an operand of ID/EX, with what completing EX/MEM writes where it must be waited for
-abbrev pub operand_held : LoadedImage → Action → ResultLatch → (ℕ → ℕ) → ℕ → ℕ → ℕ
-operand_held image m w memory rs held = settled (operand m w rs held) (given image m memory)
-
--- what ID/EX holds, with the operands that it holds
-abbrev pub item_of_latch : LoadedImage → Action → ResultLatch → (ℕ → ℕ) → DecodedLatch → Item
-item_of_latch image m w memory d =
-    record {
-      pc = d.pc;
-      op = op_of_latch d;
-      a = λ registers. operand_held image m w memory d.rs1 d.a;
-      b = λ registers. operand_held image m w memory d.rs2 d.b;
-    }
 
 -- what an entry of the instruction buffer holds; its operands are read from the registers
 abbrev pub item_of_entry : Entry → Item
@@ -74,8 +46,8 @@ path s = path_of s.image (action_in_m s) s.w (view s) s.d (entries s.buffer)
 -- MEM/WB and then EX/MEM completed, over the view
 abbrev pub latched : State → List ℕ → Log → Arch
 latched s clocks log =
-    performed s.image (action_in_m s) (record {
-      registers = put_reg s.w.rd s.w.value (register s.registers);
+    latches_completed s.image (action_in_m s) s.w (record {
+      registers = register s.registers;
       memory = view s;
       pc = s.npc;
       count = s.issued;

@@ -7,12 +7,11 @@ use Rattle.inst_buf.specs.Buffer.{entries}
 use Rattle.inst_buf.specs.Entry.{Entry}
 use Rattle.cyc_machine.specs.declared.fate.Fate.{Fate}
 use Rattle.cyc_machine.specs.declared.fate.Fate.TheVariants.{Stays}
-use Rattle.cyc_machine.specs.Cycle.{end_in, fate, retires}
+use Rattle.cyc_machine.specs.Cycle.{end_in, fate, retires, done_in}
 use Rattle.cyc_machine.specs.State.{State}
 use Rattle.flush_view.specs.Avoids.{AvoidsFlush, outside}
 use Rattle.flush_view.specs.Coherence.{IsCoherent}
 use Rattle.flush_view.specs.Flush.{entries_completed, fed, flush, path}
-use Rattle.flush_view.specs.MemoryLaw.{done_in}
 
 -- the entries that remain once ID has taken its own
 abbrev pub remaining : Fate → List Entry → List Entry

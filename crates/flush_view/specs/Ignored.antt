@@ -4,11 +4,12 @@ use Rattle.std.specs.Prelude.{◌≡◌, ℕ, ◌==◌, [], ◌∷◌, map, cond
 use Rattle.std.specs.Int.{w32, from_le_bytes}
 use Rattle.inst_buf.specs.Entry.{Entry as Fetched, no_entry as no_fetched}
 use Rattle.pipe_latch.specs.Latches.{DecodedLatch, ExecutedLatch, ResultLatch, no_decoded, no_executed, no_result}
-use Rattle.store_buf.specs.Covers.{lane_byte}
-use Rattle.store_buf.specs.Entry.{Entry as Pending, has_lane, no_entry as no_pending}
+use Rattle.bit_field.specs.Lanes.{has_lane, lane_byte}
+use Rattle.store_buf.specs.Entry.{Entry as Pending, no_entry as no_pending}
 use Rattle.wb_cache.specs.Contents.{Contents, Slot, no_slot, slots}
-use Rattle.cyc_machine.specs.Cycle.{cycle, end_in, event_in, fate, issued_from, put_in, retires}
+use Rattle.cyc_machine.specs.Cycle.{cycle}
 use Rattle.cyc_machine.specs.Facts.{IsMachine}
+use Rattle.cyc_machine.specs.Reports.{SameReport}
 use Rattle.cyc_machine.specs.State.{State}
 
 -- Each place as cycles read it: what they ignore is 0.
@@ -69,14 +70,6 @@ pub record DiffersInIgnored (s u : State) : Type 0 where
   pub cycle : s.cycle ≡ u.cycle
   pub issued : s.issued ≡ u.issued
   pub ended : s.ended ≡ u.ended
-
--- the same report of a cycle
-pub record SameReport (s u : State) : Type 0 where
-  pub put : put_in s ≡ put_in u
-  pub issued : issued_from (fate s) s.d ≡ issued_from (fate u) u.d
-  pub retired : retires s ≡ retires u
-  pub event : event_in s ≡ event_in u
-  pub end : end_in s ≡ end_in u
 
 -- The lockstep law: a state that differs from s in ignored fields alone has the same report, and its next state differs from
 -- s's, which is `next`, in ignored fields alone. Their ID/EX are the same, the count of an empty one too: so where that count is the

@@ -1,16 +1,10 @@
 -- The memory law: what a cycle does to the view, for every state and every set X of lines.
-use Rattle.std.specs.Prelude.{◌≡◌, ℕ, ◌/◌, Bool, true, false, if◌then◌else◌}
+use Rattle.std.specs.Prelude.{◌≡◌, ℕ, ◌/◌, Bool, true, false}
 use Rattle.rv_isa.specs.Instruction.{given, memory_after}
-use Rattle.rv_table.specs.declared.action.Action.{Action}
-use Rattle.rv_table.specs.declared.action.Action.TheVariants.{Nothing}
-use Rattle.cyc_machine.specs.Cycle.{action_in_m, served_m}
+use Rattle.cyc_machine.specs.Cycle.{action_in_m, done_in, served_m}
 use Rattle.cyc_machine.specs.State.{State}
 use Rattle.flush_view.specs.Coherence.{IsCoherent}
 use Rattle.flush_view.specs.Views.{view}
-
--- what the memory stage is done with in this cycle
-abbrev pub done_in : State → Action
-done_in s = if (served_m s).goes then action_in_m s else Nothing
 
 -- `next` is the state after one cycle from s.
 pub record MemoryLaw (s next : State) : Type 0 where

@@ -3,15 +3,11 @@ use Rattle.std.specs.Prelude.{ℕ, zero, suc, ◌+◌, ◌-◌, ◌==◌, ◌&&�
 use Rattle.elf_load.specs.Image.{LoadedImage}
 use Rattle.bit_field.specs.declared.shapes.Shape.{Shape}
 use Rattle.rv_isa.specs.Instruction.{State as Arch, Log, logged}
-use Rattle.rv_isa.specs.Runs.{after, reset}
 use Rattle.cyc_machine.specs.Run.{issues_below, state_at}
 use Rattle.cyc_machine.specs.State.{State}
-use Rattle.flush_view.specs.Flush.{Item, path}
-use Rattle.flush_view.specs.MemoryLaw.{done_in}
-
--- the state before instruction i of an image's run with these clock values
-abbrev pub trace_at : LoadedImage → List ℕ → ℕ → Arch
-trace_at image clocks i = after image i (reset image clocks)
+use Rattle.flush_view.specs.Flush.{path}
+use Rattle.cyc_machine.specs.InFlight.{Item}
+use Rattle.cyc_machine.specs.Cycle.{done_in}
 
 -- x(t): how many instructions have left EX before cycle t
 abbrev pub left_execute : LoadedImage → Shape → ℕ → ℕ

@@ -1,19 +1,18 @@
 -- What holds of each state of a run from reset, as it follows the instruction set's run.
-use Rattle.std.specs.Prelude.{◌≡◌, ◌≢◌, ◌⊎◌, suc, ◌+◌, ◌<◌, ◌/◌, ℕ, Bool, true, false, List, Some, None}
+use Rattle.std.specs.Prelude.{◌≡◌, ◌≢◌, ◌⊎◌, suc, ◌+◌, ◌<◌, ℕ, Bool, true, false, List, None}
 use Rattle.std.specs.List.{All}
 use Rattle.rv_table.specs.declared.action.Action.TheVariants.{Nothing}
 use Rattle.rv_isa.specs.Instruction.{State as Arch, Log, op_at, put_reg, reg}
 use Rattle.pipe_latch.specs.Latches.{op_of_latch}
 use Rattle.inst_buf.specs.Buffer.{entries, packed}
-use Rattle.store_buf.specs.Pending.{pending}
-use Rattle.wb_cache.specs.Access.{found}
+use Rattle.cyc_machine.specs.Busy.{WorksForMiss}
 use Rattle.cyc_machine.specs.Cycle.{action_in_m}
-use Rattle.cyc_machine.specs.Memory.{load_client, owned_word, store_client}
+use Rattle.cyc_machine.specs.InFlight.{operand_held}
 use Rattle.cyc_machine.specs.Pipeline.{fetched, register}
 use Rattle.cyc_machine.specs.State.{State}
-use Rattle.flush_view.specs.Avoids.{next_action}
+use Rattle.rv_isa.specs.Accesses.{next_action}
 use Rattle.flush_view.specs.Coherence.{IsCoherent}
-use Rattle.flush_view.specs.Flush.{flush, latched, operand_held, path}
+use Rattle.flush_view.specs.Flush.{flush, latched, path}
 use Rattle.flush_view.specs.Positions.{is_latch_on_path, on_path}
 use Rattle.flush_view.specs.Views.{view}
 
@@ -26,12 +25,6 @@ pub record HoldsNext (s : State) (at : Arch) : Type 0 where
   pub op : op_of_latch s.d ≡ op_at s.image at.pc
   pub a : operand_held s.image (action_in_m s) s.w (view s) s.d.rs1 s.d.a ≡ reg at.registers s.d.rs1
   pub b : operand_held s.image (action_in_m s) s.w (view s) s.d.rs2 s.d.b ≡ reg at.registers s.d.rs2
-
--- The client that the port works for is there, and its line is missing.
-pub record WorksForMiss (s : State) : Type 0 where
-  pub word : ℕ
-  pub client : owned_word s.port.owner (load_client s.image (action_in_m s) (pending s.stores)) (store_client s.image (pending s.stores)) ≡ Some word
-  pub missing : found s.cache (word / 4) ≡ None
 
 -- The state s follows a run of the instruction set: e instructions are done and x have left EX. The log is what was done so far, and
 -- `later` are the clock values of the reads of the cycle counter that are still to come.

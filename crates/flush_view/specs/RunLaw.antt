@@ -5,7 +5,8 @@ use Rattle.elf_load.specs.Image.{LoadedImage}
 use Rattle.bit_field.specs.declared.shapes.Shape.{Shape}
 use Rattle.cyc_machine.specs.Cycle.{end_in}
 use Rattle.cyc_machine.specs.Run.{IsRunning, clocks_below, output_below, retired_below, state_at}
-use Rattle.flush_view.specs.Positions.{done_below, left_execute, left_memory, trace_at}
+use Rattle.flush_view.specs.Positions.{done_below, left_execute, left_memory}
+use Rattle.rv_isa.specs.Runs.{trace_at}
 use Rattle.flush_view.specs.RunFacts.{RunFacts}
 
 -- With these clock values the instruction set's run ends so after n instructions, with these bytes, and not before.

@@ -2,8 +2,8 @@
 use Rattle.std.specs.Prelude.{ℕ, ◌/◌, ◌%◌, ◌==◌, ◌&&◌, cond, List, [], ◌∷◌, Option, Some, None, if◌then◌else◌}
 use Rattle.bit_field.specs.declared.shapes.Shape.{Shape}
 use Rattle.elf_load.specs.Image.{in_ram, ram_byte}
-use Rattle.store_buf.specs.Covers.{lane_byte}
-use Rattle.store_buf.specs.Entry.{Entry, has_lane}
+use Rattle.bit_field.specs.Lanes.{has_lane, lane_byte}
+use Rattle.store_buf.specs.Entry.{Entry}
 use Rattle.store_buf.specs.Pending.{pending}
 use Rattle.wb_cache.specs.Contents.{Slot, slots}
 use Rattle.wb_cache.specs.Lookup.{set_of, way_of}

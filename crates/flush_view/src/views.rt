@@ -6,7 +6,7 @@ ghost use Rattle.wb_cache.specs.Contents.{slots};
 ghost use Rattle.std.specs.Prelude.{true, length};
 ghost use Rattle.store_buf.specs.Pending.{pending};
 
-use bit_field::{Struck, bit_at};
+use bit_field::{Struck, has_lane, lane_byte};
 use cyc_machine::Machine;
 use store_buf::{Pending, StoreBuf};
 
@@ -60,8 +60,8 @@ fn stored_byte(stores: &StoreBuf, addr: u32, below: u8) -> u8
 fn over(store: &Pending, addr: u32, below: u8) -> u8
     ensures { result ≡ views.over store.now addr below }
 {
-    if store.addr == addr / 4 && bit_at(u32::from(store.mask), addr % 4) {
-        store.value.to_le_bytes()[(addr % 4) as usize]
+    if store.addr == addr / 4 && has_lane(store.mask, addr % 4) {
+        lane_byte(store.value, addr % 4)
     } else {
         below
     }

@@ -1,9 +1,6 @@
 -- The bits of the instruction buffer: slot k from bit 64 k.
 use Rattle.std.specs.Prelude.{ℕ, List}
-use Rattle.std.proofs.Common.{arith}
 use Rattle.bit_field.specs.Arrays.{bit_of_array, flip_array, IsArray}
-use Rattle.bit_field.specs.Laws.{FlipLaws}
-use Rattle.bit_field.proofs.Arrays.{laws_of_array}
 use Rattle.inst_buf.specs.Entry.{Entry, no_entry}
 use Rattle.inst_buf.specs.EntryBits as slot
 
@@ -15,6 +12,3 @@ bit_of = bit_of_array 64 no_entry slot.bit_of
 
 abbrev pub flipped : List Entry → ℕ → List Entry
 flipped = flip_array 64 no_entry slot.flipped
-
-pub laws : FlipLaws IsFit (λ _. 256) bit_of flipped
-laws = laws_of_array 4 64 no_entry slot.IsFit slot.bit_of slot.flipped (omega arith) slot.laws

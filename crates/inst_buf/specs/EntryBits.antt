@@ -1,9 +1,6 @@
 -- The bits of a slot of the instruction buffer.
-use Rattle.std.specs.Prelude.{◌≡◌, ℕ, Bool, List, [], ◌∷◌, slice_index}
-use Rattle.std.proofs.Common.{ap, sym, ◌∙◌}
-use Rattle.bit_field.specs.Fields.{flip_field, flip_bool, number_of, flip_row, bit_of_row, IsRow}
-use Rattle.bit_field.specs.Laws.{FlipLaws}
-use Rattle.bit_field.proofs.Rows.{laws_by_row, number_of-flip_bool, is_one, is_one-number_of}
+use Rattle.std.specs.Prelude.{ℕ, List, [], ◌∷◌}
+use Rattle.bit_field.specs.Fields.{flip_field, flip_bool, number_of, bit_of_row, IsRow}
 use Rattle.inst_buf.specs.Entry.{Entry}
 
 -- valid 0, fault 1, pc 2 to 31, word 32 to 63
@@ -12,9 +9,6 @@ widths = 1 ∷ 1 ∷ 30 ∷ 32 ∷ []
 
 abbrev pub values : Entry → List ℕ
 values x = number_of x.valid ∷ number_of x.fault ∷ x.pc ∷ x.word ∷ []
-
-abbrev pub from_values : List ℕ → Entry
-from_values vs = record { valid = is_one (slice_index vs 0); fault = is_one (slice_index vs 1); pc = slice_index vs 2; word = slice_index vs 3 }
 
 abbrev pub IsFit : Entry → Type 0
 IsFit x = IsRow widths (values x)
@@ -29,17 +23,3 @@ flipped x k = record {
   pc = flip_field 2 30 x.pc k;
   word = flip_field 32 32 x.word k;
 }
-
-flips : (x : Entry) (k : ℕ) → values (flipped x k) ≡ flip_row 0 widths (values x) k
-flips x k = let e = number_of-flip_bool 0 x.valid k in let f = number_of-flip_bool 1 x.fault k in cc
-
-from_values-values : (x : Entry) → from_values (values x) ≡ x
-from_values-values x =
-    ap (λ (v : Bool). record x { valid = v; fault = is_one (number_of x.fault) }) (is_one-number_of x.valid)
-    ∙ ap (λ (v : Bool). record x { fault = v }) (is_one-number_of x.fault)
-
-same_values : (x y : Entry) → values x ≡ values y → x ≡ y
-same_values x y e = sym (from_values-values x) ∙ ap from_values e ∙ from_values-values y
-
-pub laws : FlipLaws IsFit (λ _. 64) bit_of flipped
-laws = laws_by_row widths values flipped flips same_values

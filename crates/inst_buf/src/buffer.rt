@@ -39,8 +39,6 @@ impl Struck for InstBuf {
 
     ghost flipped = { buffer_bits.flipped };
 
-    ghost laws = { buffer_bits.laws };
-
     fn bits(&self) -> u32 {
         256
     }
@@ -60,6 +58,8 @@ impl Struck for InstBuf {
             slot.fits();
         }
     }
+
+    fn laws(&self) {}
 }
 
 impl InstBuf {

@@ -43,8 +43,6 @@ impl Struck for Slot {
 
     ghost flipped = { slot_bits.flipped };
 
-    ghost laws = { slot_bits.laws };
-
     fn bits(&self) -> u32 {
         64
     }
@@ -71,6 +69,8 @@ impl Struck for Slot {
     fn fits(&self) {
         let _word = self.word;
     }
+
+    fn laws(&self) {}
 }
 
 /// An empty slot: all zero.

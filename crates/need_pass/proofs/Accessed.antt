@@ -4,13 +4,13 @@ use Rattle.std.specs.Prelude.{Some, slice_get}
 use Rattle.rv_isa.specs.declared.effect.Retired.{Retired}
 use Rattle.need_pass.specs.Links.{Link, loads}
 use Rattle.need_pass.specs.Needed.{Root, Needed}
-use Rattle.need_pass.specs.Places.{Place, Register, Byte}
+use Rattle.need_pass.specs.ProgramBits.{ProgramBit, Register, Byte}
 
 byte_root : (i : Retired) (p k : ℕ) → Root i (Byte p k) → ⊥
 unfolding Root
 byte_root i p k root = root
 
-byte_link : (i : Retired) (p k : ℕ) (q : Place) → Link i (Byte p k) q → (loads i p ≡ true) ⊎ (q ≡ Byte p k)
+byte_link : (i : Retired) (p k : ℕ) (q : ProgramBit) → Link i (Byte p k) q → (loads i p ≡ true) ⊎ (q ≡ Byte p k)
 unfolding Link
 byte_link i p k (Register s j) link = inl link.1
 byte_link i p k (Byte q j) (stored, e, f) = inr (ap (λ x. Byte x j) (sym e) ∙ ap (Byte p) (sym f))

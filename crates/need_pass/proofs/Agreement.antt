@@ -10,12 +10,13 @@ use Rattle.rv_table.specs.Effects.{written_register, byte_put}
 use Rattle.rv_table.specs.Operations.{operation_of}
 use Rattle.rv_table.specs.declared.action.Action.{Action}
 use Rattle.rv_table.specs.declared.op.Op.{Op}
-use Rattle.need_pass.specs.Law.{next_action, seen, IsWords}
+use Rattle.need_pass.specs.Law.{seen, IsWords}
+use Rattle.rv_isa.specs.Accesses.{next_action}
 use Rattle.need_pass.specs.Links.{Link, LinkA, LinkB, LinkLoaded, writes, is_register, has_byte, byte_number, stored_bytes}
 use Rattle.need_pass.specs.Needed.{Root, RootA, RootB, Needed, Agrees}
-use Rattle.need_pass.specs.Places.{Place, Register, Byte, IsPlace, bit_of}
+use Rattle.need_pass.specs.ProgramBits.{ProgramBit, Register, Byte, IsProgramBit, bit_of}
 use Rattle.need_pass.proofs.Fields.{IsFields, fetched_fields}
-use Rattle.need_pass.proofs.Passes.{needed_place}
+use Rattle.need_pass.proofs.Passes.{needed_bit}
 use Rattle.need_pass.proofs.TwinEffects.{IsAllowed, allowed, same_access, same_put, same_end, same_register, same_given, same_memory}
 use Rattle.need_pass.proofs.Twins.{Twins, asked_twins, judged_twins}
 use Rattle.need_pass.proofs.OneStep.{same_operand, operand_below, writes_is, put_reg-at, loaded_below, done_at, same_clocks, same_address, registers_next, memory_next, pc_next, count_next, clocks_next, seen_by, write_recorded}
@@ -25,11 +26,11 @@ module _ (image : LoadedImage) (t : List Retired) (s u : State) (is : IsImage im
   fields : IsFields (op_at image s.pc)
   fields = fetched_fields image is s.pc
 
-  root : (p : Place) → IsPlace p → Root (retired_at image s) p → bit_of s p ≡ bit_of u p
+  root : (p : ProgramBit) → IsProgramBit p → Root (retired_at image s) p → bit_of s p ≡ bit_of u p
   unfolding Needed
   root p place r = sym (agree.bits p (place, inl r))
 
-  linked : (p q : Place) → IsPlace p → Link (retired_at image s) p q → Needed t q → bit_of s p ≡ bit_of u p
+  linked : (p q : ProgramBit) → IsProgramBit p → Link (retired_at image s) p q → Needed t q → bit_of s p ≡ bit_of u p
   unfolding Needed
   linked p q place link n = sym (agree.bits p (place, inr (q, link, n)))
 
@@ -135,7 +136,7 @@ module _ (image : LoadedImage) (t : List Retired) (s u : State) (is : IsImage im
       address : next_address (op_at image s.pc) s.pc (reg s.registers (op_at image s.pc).rs1) (operand_b (op_at image s.pc) s) ≡ next_address (op_at image s.pc) s.pc (reg u.registers (op_at image s.pc).rs1) (with_counter (op_at image s.pc) (first_clock s.clocks) s.count (reg u.registers (op_at image s.pc).rs2))
       address = same_address (op_at image s.pc) s.pc (first_clock s.clocks) s.count (reg s.registers (op_at image s.pc).rs1) (reg s.registers (op_at image s.pc).rs2) (reg u.registers (op_at image s.pc).rs1) (reg u.registers (op_at image s.pc).rs2) (operand_below s.registers (op_at image s.pc).rs1 ws.registers) (operand_below s.registers (op_at image s.pc).rs2 ws.registers) (operand_below u.registers (op_at image s.pc).rs1 wu.registers) (operand_below u.registers (op_at image s.pc).rs2 wu.registers) root_a root_b
 
-  bits_agree : (p : Place) → IsPlace p → Needed t p → bit_of (instruction image u) p ≡ bit_of (instruction image s) p
+  bits_agree : (p : ProgramBit) → IsProgramBit p → Needed t p → bit_of (instruction image u) p ≡ bit_of (instruction image s) p
   bits_agree (Register r j) (p, q, l) n = sym (register_bit r j p q l n)
   bits_agree (Byte p k) (b, l) n = sym (byte_bit p k b l n)
 
@@ -144,5 +145,5 @@ module _ (image : LoadedImage) (t : List Retired) (s u : State) (is : IsImage im
     pc = same_pc;
     count = count_next image u ∙ ap next_count agree.count ∙ sym (count_next image s);
     clocks = clocks_next image u ∙ ap (λ pc. cond (is_clocked (op_at image pc)) (later_clocks u.clocks) u.clocks) agree.pc ∙ ap (λ c. cond (is_clocked (op_at image s.pc)) (later_clocks c) c) agree.clocks ∙ sym (clocks_next image s);
-    bits = λ p n. bits_agree p (needed_place t p n) n;
+    bits = λ p n. bits_agree p (needed_bit t p n) n;
   }

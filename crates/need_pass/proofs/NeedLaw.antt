@@ -7,43 +7,43 @@ use Rattle.elf_load.specs.Image.{LoadedImage, IsImage}
 use Rattle.rv_isa.proofs.RunSteps.{after-next}
 use Rattle.rv_isa.specs.Effects.{retired_at}
 use Rattle.rv_isa.specs.Instruction.{State, instruction}
-use Rattle.rv_isa.specs.Runs.{EndedRun, IsTrace, reset}
+use Rattle.rv_isa.specs.Runs.{ProgramTrace, IsTrace, reset, trace_at}
 use Rattle.rv_isa.specs.declared.effect.Retired.{Retired}
-use Rattle.need_pass.specs.Law.{IsWords, seen, seen_of, recorded, NeedLaw}
+use Rattle.need_pass.specs.Law.{IsWords, seen, seen_of, NeedLaw}
 use Rattle.need_pass.specs.Needed.{Agrees}
 use Rattle.need_pass.proofs.Agreement.{same_seen, agrees_next}
 use Rattle.need_pass.proofs.Ranges.{words_next, words_reset, words_after}
 
-module _ (image : LoadedImage) (clocks : List ℕ) (run : EndedRun) (is : IsImage image) (fit : All (λ c. c < 2 ^ 32) clocks) (trace : IsTrace image clocks run) where
-  recorded_words : (i : ℕ) → IsWords (recorded image clocks i)
+module _ (image : LoadedImage) (clocks : List ℕ) (run : ProgramTrace) (is : IsImage image) (fit : All (λ c. c < 2 ^ 32) clocks) (trace : IsTrace image clocks run) where
+  recorded_words : (i : ℕ) → IsWords (trace_at image clocks i)
   recorded_words i = words_after image i (reset image clocks) is (words_reset image clocks is fit)
 
-  rest : (i : ℕ) → i < length run.entries → drop i run.entries ≡ retired_at image (recorded image clocks i) ∷ drop (i + 1) run.entries
+  rest : (i : ℕ) → i < length run.entries → drop i run.entries ≡ retired_at image (trace_at image clocks i) ∷ drop (i + 1) run.entries
   rest i l =
       let found = trace.retired i l in
-      let entry : Retired = retired_at image (recorded image clocks i) in
+      let entry : Retired = retired_at image (trace_at image clocks i) in
       drop_more run.entries i entry l ∙ ap (λ x. x ∷ drop (i + 1) run.entries) (get_or_from_slice_get run.entries i entry entry found)
 
-  recorded_next : (i : ℕ) → i < length run.entries → recorded image clocks (i + 1) ≡ instruction image (recorded image clocks i)
-  recorded_next i l = let e : i + 1 ≡ suc i = omega arith in ap (λ n. recorded image clocks n) e ∙ after-next image i (reset image clocks) (trace.running i l)
+  recorded_next : (i : ℕ) → i < length run.entries → trace_at image clocks (i + 1) ≡ instruction image (trace_at image clocks i)
+  recorded_next i l = let e : i + 1 ≡ suc i = omega arith in ap (λ n. trace_at image clocks n) e ∙ after-next image i (reset image clocks) (trace.running i l)
 
-  at_entry : (i : ℕ) (at : State) → i < length run.entries → Agrees (drop i run.entries) (recorded image clocks i) at → Agrees (retired_at image (recorded image clocks i) ∷ drop (i + 1) run.entries) (recorded image clocks i) at
-  at_entry i at l a = subst (λ (t : List Retired). Agrees t (recorded image clocks i) at) (rest i l) a
+  at_entry : (i : ℕ) (at : State) → i < length run.entries → Agrees (drop i run.entries) (trace_at image clocks i) at → Agrees (retired_at image (trace_at image clocks i) ∷ drop (i + 1) run.entries) (trace_at image clocks i) at
+  at_entry i at l a = subst (λ (t : List Retired). Agrees t (trace_at image clocks i) at) (rest i l) a
 
-  sees : (i : ℕ) (at : State) → i < length run.entries → IsWords at → Agrees (drop i run.entries) (recorded image clocks i) at → seen image at ≡ seen image (recorded image clocks i)
-  sees i at l w a = same_seen image (drop (i + 1) run.entries) (recorded image clocks i) at is (recorded_words i) w (at_entry i at l a)
+  sees : (i : ℕ) (at : State) → i < length run.entries → IsWords at → Agrees (drop i run.entries) (trace_at image clocks i) at → seen image at ≡ seen image (trace_at image clocks i)
+  sees i at l w a = same_seen image (drop (i + 1) run.entries) (trace_at image clocks i) at is (recorded_words i) w (at_entry i at l a)
 
-  agrees : (i : ℕ) (at : State) → i < length run.entries → IsWords at → Agrees (drop i run.entries) (recorded image clocks i) at → Agrees (drop (i + 1) run.entries) (recorded image clocks (i + 1)) (instruction image at)
+  agrees : (i : ℕ) (at : State) → i < length run.entries → IsWords at → Agrees (drop i run.entries) (trace_at image clocks i) at → Agrees (drop (i + 1) run.entries) (trace_at image clocks (i + 1)) (instruction image at)
   agrees i at l w a =
-      subst (λ (s : State). Agrees (drop (i + 1) run.entries) s (instruction image at)) (sym (recorded_next i l)) (agrees_next image (drop (i + 1) run.entries) (recorded image clocks i) at is (recorded_words i) w (at_entry i at l a))
+      subst (λ (s : State). Agrees (drop (i + 1) run.entries) s (instruction image at)) (sym (recorded_next i l)) (agrees_next image (drop (i + 1) run.entries) (trace_at image clocks i) at is (recorded_words i) w (at_entry i at l a))
 
-  runs : (i n : ℕ) (at : State) → i + n ≤ length run.entries → IsWords at → Agrees (drop i run.entries) (recorded image clocks i) at → seen_of image n at ≡ seen_of image n (recorded image clocks i)
+  runs : (i n : ℕ) (at : State) → i + n ≤ length run.entries → IsWords at → Agrees (drop i run.entries) (trace_at image clocks i) at → seen_of image n at ≡ seen_of image n (trace_at image clocks i)
   unfolding seen_of
   runs i zero at l w a = refl
   runs i (suc n) at l w a =
       let m : i < length run.entries = omega arith in
       ap (λ x. x ∷ seen_of image n (instruction image at)) (sees i at m w a)
-      ∙ ap (λ x. seen image (recorded image clocks i) ∷ x) (runs (i + 1) n (instruction image at) (omega arith) (words_next image at is w) (agrees i at m w a) ∙ ap (seen_of image n) (recorded_next i m))
+      ∙ ap (λ x. seen image (trace_at image clocks i) ∷ x) (runs (i + 1) n (instruction image at) (omega arith) (words_next image at is w) (agrees i at m w a) ∙ ap (seen_of image n) (recorded_next i m))
 
   pub need_law : NeedLaw image clocks run.entries
   need_law = record { sees = sees; words = λ at w. words_next image at is w; agrees = agrees; runs = runs }

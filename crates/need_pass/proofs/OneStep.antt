@@ -19,7 +19,8 @@ use Rattle.rv_table.specs.declared.action.Action.TheVariants.{Loads}
 use Rattle.rv_table.specs.declared.op.Op.{Op}
 use Rattle.rv_table.specs.declared.operation.LoadKind.{LoadKind}
 use Rattle.rv_table.specs.declared.operation.LoadKind.TheVariants.{Lb, Lh, Lw, Lbu, Lhu}
-use Rattle.need_pass.specs.Law.{next_action, Seen}
+use Rattle.need_pass.specs.Law.{Seen}
+use Rattle.rv_isa.specs.Accesses.{next_action}
 use Rattle.need_pass.specs.Links.{is_register, has_byte}
 use Rattle.need_pass.specs.Needed.{RootA, RootB}
 use Rattle.need_pass.proofs.TwinEffects.{IsAllowed}

@@ -11,7 +11,7 @@ use Rattle.rv_isa.specs.declared.effect.Retired.{Retired}
 use Rattle.need_pass.specs.Histories.{mask_after, mask_at}
 use Rattle.need_pass.specs.Links.{Link}
 use Rattle.need_pass.specs.Needed.{Root, Needed}
-use Rattle.need_pass.specs.Places.{Place, Register, Byte, IsPlace}
+use Rattle.need_pass.specs.ProgramBits.{ProgramBit, Register, Byte, IsProgramBit}
 use Rattle.need_pass.specs.Steps.{StepsBack, IsSettled}
 use Rattle.need_pass.specs.Tables.{register_mask, byte_mask, need_bit, reg_need, byte_need, IsNeedOf}
 use Rattle.need_pass.specs.declared.history.Change.{Change}
@@ -20,23 +20,23 @@ use Rattle.need_pass.specs.declared.history.Change.{Change}
 pub record IsPassed (entries : List Retired) (registers : List (List Change)) (bytes : List (ℕ × List Change)) (at : ℕ) : Type 0 where
   pub count : length registers ≡ 31
   pub settled : IsSettled registers bytes at
-  pub exact : (p : Place) (i : ℕ) → IsPlace p → at ≤ i → (need_bit registers bytes p i ≡ 1) ↔ Needed (drop i entries) p
+  pub exact : (p : ProgramBit) (i : ℕ) → IsProgramBit p → at ≤ i → (need_bit registers bytes p i ≡ 1) ↔ Needed (drop i entries) p
 
-pub needed_place : (entries : List Retired) (p : Place) → Needed entries p → IsPlace p
+pub needed_bit : (entries : List Retired) (p : ProgramBit) → Needed entries p → IsProgramBit p
 unfolding Needed
-needed_place [] p n = absurd n
-needed_place (i ∷ later) p n = n.0
+needed_bit [] p n = absurd n
+needed_bit (i ∷ later) p n = n.0
 
 -- what is needed before an instruction, by it and by the others
-needed_more : (i : Retired) (later : List Retired) (p : Place) → IsPlace p → (B : Place → Type 0) → ((q : Place) → IsPlace q → B q ↔ Needed later q) → (Root i p ⊎ ((q : Place) × IsPlace q × Link i p q × B q)) ↔ Needed (i ∷ later) p
+needed_more : (i : Retired) (later : List Retired) (p : ProgramBit) → IsProgramBit p → (B : ProgramBit → Type 0) → ((q : ProgramBit) → IsProgramBit q → B q ↔ Needed later q) → (Root i p ⊎ ((q : ProgramBit) × IsProgramBit q × Link i p q × B q)) ↔ Needed (i ∷ later) p
 unfolding Needed
 needed_more i later p is B same = (
   λ s. elim s [ inl root ↦ (is, inl root) | inr (q, qs, link, b) ↦ (is, inr (q, link, (same q qs).0 b)) ],
-  λ n. elim n.1 [ inl root ↦ inl root | inr (q, link, m) ↦ let qs = needed_place later q m in inr (q, qs, link, (same q qs).1 m) ],
+  λ n. elim n.1 [ inl root ↦ inl root | inr (q, link, m) ↦ let qs = needed_bit later q m in inr (q, qs, link, (same q qs).1 m) ],
 )
 
 -- at the first instruction the need is that of `at`
-at_first : (registers : List (List Change)) (bytes : List (ℕ × List Change)) (at : ℕ) → IsSettled registers bytes at → (p : Place) → IsPlace p → need_bit registers bytes p 0 ≡ need_bit registers bytes p at
+at_first : (registers : List (List Change)) (bytes : List (ℕ × List Change)) (at : ℕ) → IsSettled registers bytes at → (p : ProgramBit) → IsProgramBit p → need_bit registers bytes p 0 ≡ need_bit registers bytes p at
 at_first registers bytes at s (Register r k) (a, b, c) = ap (λ m. bit_at m k) (sym (s.register r at a b (omega arith)))
 at_first registers bytes at s (Byte p k) (a, b) = ap (λ m. bit_at m k) (sym (s.byte p at a (omega arith)))
 
@@ -47,20 +47,20 @@ passed_more entries registers registers' bytes bytes' at entry found same h step
     settled : IsSettled registers' bytes' at
     settled = step.settled (record { register = λ r i a b l. h.settled.register r i a b (omega arith); byte = λ p i a l. h.settled.byte p i a (omega arith) })
 
-    before : (q : Place) → IsPlace q → (need_bit registers bytes q 0 ≡ 1) ↔ Needed (drop (at + 1) entries) q
+    before : (q : ProgramBit) → IsProgramBit q → (need_bit registers bytes q 0 ≡ 1) ↔ Needed (drop (at + 1) entries) q
     before q is =
         let e : need_bit registers bytes q 0 ≡ need_bit registers bytes q (at + 1) = at_first registers bytes (at + 1) h.settled q is in
         let x = h.exact q (at + 1) is (omega arith) in
         (λ one. x.0 (sym e ∙ one), λ n. e ∙ x.1 n)
 
-    here : (p : Place) → IsPlace p → (need_bit registers' bytes' p at ≡ 1) ↔ Needed (drop at entries) p
+    here : (p : ProgramBit) → IsProgramBit p → (need_bit registers' bytes' p at ≡ 1) ↔ Needed (drop at entries) p
     here p is =
         let e : need_bit registers' bytes' p 0 ≡ need_bit registers' bytes' p at = at_first registers' bytes' at settled p is in
         let d : drop at entries ≡ entry ∷ drop (at + 1) entries = drop_more entries at entry (slice_get_within entries at entry found) ∙ ap (λ x. x ∷ drop (at + 1) entries) (get_or_from_slice_get entries at entry entry found) in
         let more = needed_more entry (drop (at + 1) entries) p is (λ q. need_bit registers bytes q 0 ≡ 1) (before) in
         (λ one. rw d (more.0 ((step.now p is).0 (e ∙ one))), λ n. sym e ∙ (step.now p is).1 (more.1 (rw d at n)))
 
-    exact : (p : Place) (i : ℕ) → IsPlace p → at ≤ i → (need_bit registers' bytes' p i ≡ 1) ↔ Needed (drop i entries) p
+    exact : (p : ProgramBit) (i : ℕ) → IsProgramBit p → at ≤ i → (need_bit registers' bytes' p i ≡ 1) ↔ Needed (drop i entries) p
     exact p i is l =
         elim (cases_lt at i) [
           | inl m ↦
@@ -84,7 +84,7 @@ mask_none : (i : ℕ) → mask_at [] i ≡ 0
 unfolding mask_after
 mask_none i = refl
 
-needed_none : (p : Place) → Needed [] p → ⊥
+needed_none : (p : ProgramBit) → Needed [] p → ⊥
 unfolding Needed
 needed_none p n = n
 
@@ -101,10 +101,10 @@ passed_none entries registers e = record {
     no_byte : (p i : ℕ) → byte_mask [] p i ≡ 0
     no_byte p i = mask_none i
 
-    never : (i : ℕ) (p : Place) → length entries ≤ i → Needed (drop i entries) p → ⊥
+    never : (i : ℕ) (p : ProgramBit) → length entries ≤ i → Needed (drop i entries) p → ⊥
     never i p l n = needed_none p (rw (drop_all i entries l) at n)
 
-    exact : (p : Place) (i : ℕ) → IsPlace p → length entries ≤ i → (need_bit registers [] p i ≡ 1) ↔ Needed (drop i entries) p
+    exact : (p : ProgramBit) (i : ℕ) → IsProgramBit p → length entries ≤ i → (need_bit registers [] p i ≡ 1) ↔ Needed (drop i entries) p
     exact (Register r k) i is l = (λ one. absurd (omega (arith, bit_at-zero k, rw (no_register r i) at one)), λ n. absurd (never i (Register r k) l n))
     exact (Byte p k) i is l = (λ one. absurd (omega (arith, bit_at-zero k, rw (no_byte p i) at one)), λ n. absurd (never i (Byte p k) l n))
 

@@ -20,7 +20,8 @@ use Rattle.rv_table.specs.declared.operation.StoreKind.{StoreKind}
 use Rattle.rv_table.specs.declared.operation.CounterKind.TheVariants.{Cycle, Instret, Cycleh, Instreth}
 use Rattle.rv_table.specs.declared.operation.Operation.{Operation}
 use Rattle.rv_table.specs.declared.operation.Operation.TheVariants.{Lui, Auipc, Jal, Jalr, Branch, Load, Store, AluImmediate, Alu, Fence, Ecall, ReadCounter}
-use Rattle.need_pass.specs.Law.{next_action, IsWords}
+use Rattle.need_pass.specs.Law.{IsWords}
+use Rattle.rv_isa.specs.Accesses.{next_action}
 use Rattle.need_pass.proofs.OneStep.{operand_below, registers_next, memory_next, count_next, clocks_next}
 use Rattle.need_pass.proofs.Fields.{fetched_fields}
 use Rattle.need_pass.proofs.Results.{alu_below}

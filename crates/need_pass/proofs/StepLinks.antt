@@ -8,7 +8,7 @@ use Rattle.rv_table.specs.declared.operation.Operation.{Operation}
 use Rattle.rv_table.specs.declared.operation.Operation.TheVariants.{Load}
 use Rattle.need_pass.specs.Links.{Link, LinkLoaded, writes, stores, byte_number}
 use Rattle.need_pass.specs.Needed.{Root}
-use Rattle.need_pass.specs.Places.{Place, Register, Byte, IsPlace}
+use Rattle.need_pass.specs.ProgramBits.{ProgramBit, Register, Byte, IsProgramBit}
 use Rattle.need_pass.specs.Steps.{StepsBack, IsSettled}
 use Rattle.need_pass.specs.Tables.{register_mask, byte_mask, need_bit}
 use Rattle.need_pass.specs.declared.history.Change.{Change}
@@ -25,15 +25,15 @@ loaded_low (Load Lbu) k j l s = omega arith
 loaded_low (Load Lhu) k j l s = omega arith
 loaded_low _ k j l s = absurd s
 
-abbrev pub bit_in : (ℕ → ℕ → ℕ) → (ℕ → ℕ → ℕ) → Place → ℕ
+abbrev pub bit_in : (ℕ → ℕ → ℕ) → (ℕ → ℕ → ℕ) → ProgramBit → ℕ
 bit_in R B (Register r k) = bit_at (R r 0) k
 bit_in R B (Byte p k) = bit_at (B p 0) k
 
--- a link to a place that is needed behind the instruction
-abbrev pub Leads : Retired → (ℕ → ℕ → ℕ) → (ℕ → ℕ → ℕ) → Place → Type 0
-Leads i R B p = (q : Place) × IsPlace q × Link i p q × (bit_in R B q ≡ 1)
+-- a link to a bit that is needed behind the instruction
+abbrev pub Leads : Retired → (ℕ → ℕ → ℕ) → (ℕ → ℕ → ℕ) → ProgramBit → Type 0
+Leads i R B p = (q : ProgramBit) × IsProgramBit q × Link i p q × (bit_in R B q ≡ 1)
 
-pub register_leads : (i : Retired) (at : ℕ) (R0 R1 R2 R3 B0 B1 B2 : ℕ → ℕ → ℕ) → Parts i at R0 R1 R2 R3 B0 B1 B2 → (r k : ℕ) → IsPlace (Register r k) → bit_at (R3 r 0) k ≡ 1 → Root i (Register r k) ⊎ Leads i R0 B0 (Register r k)
+pub register_leads : (i : Retired) (at : ℕ) (R0 R1 R2 R3 B0 B1 B2 : ℕ → ℕ → ℕ) → Parts i at R0 R1 R2 R3 B0 B1 B2 → (r k : ℕ) → IsProgramBit (Register r k) → bit_at (R3 r 0) k ≡ 1 → Root i (Register r k) ⊎ Leads i R0 B0 (Register r k)
 unfolding Root Link
 register_leads i at R0 R1 R2 R3 B0 B1 B2 h r k (p, l, m) one =
     elim ((register_bits i at R0 R1 R2 R3 B0 B1 B2 h r k p l).0 one) [
@@ -61,7 +61,7 @@ register_leads i at R0 R1 R2 R3 B0 B1 B2 h r k (p, l, m) one =
           ]
     ]
 
-pub byte_leads : (i : Retired) (at : ℕ) (R0 R1 R2 R3 B0 B1 B2 : ℕ → ℕ → ℕ) → Parts i at R0 R1 R2 R3 B0 B1 B2 → (p k : ℕ) → IsPlace (Byte p k) → bit_at (B2 p 0) k ≡ 1 → Leads i R0 B0 (Byte p k)
+pub byte_leads : (i : Retired) (at : ℕ) (R0 R1 R2 R3 B0 B1 B2 : ℕ → ℕ → ℕ) → Parts i at R0 R1 R2 R3 B0 B1 B2 → (p k : ℕ) → IsProgramBit (Byte p k) → bit_at (B2 p 0) k ≡ 1 → Leads i R0 B0 (Byte p k)
 unfolding Link
 byte_leads i at R0 R1 R2 R3 B0 B1 B2 h p k (l, m) one =
     elim ((byte_bits i at R0 R1 R2 R3 B0 B1 B2 h p k l m).0 one) [
@@ -72,7 +72,7 @@ byte_leads i at R0 R1 R2 R3 B0 B1 B2 h p k (l, m) one =
           (Register s j, (sp, sl, jl), (w, loaded.0, link), b)
     ]
 
-pub register_back : (i : Retired) (at : ℕ) (R0 R1 R2 R3 B0 B1 B2 : ℕ → ℕ → ℕ) → Parts i at R0 R1 R2 R3 B0 B1 B2 → (r k : ℕ) → IsPlace (Register r k) → (q : Place) → IsPlace q → Link i (Register r k) q → bit_in R0 B0 q ≡ 1 → bit_at (R3 r 0) k ≡ 1
+pub register_back : (i : Retired) (at : ℕ) (R0 R1 R2 R3 B0 B1 B2 : ℕ → ℕ → ℕ) → Parts i at R0 R1 R2 R3 B0 B1 B2 → (r k : ℕ) → IsProgramBit (Register r k) → (q : ProgramBit) → IsProgramBit q → Link i (Register r k) q → bit_in R0 B0 q ≡ 1 → bit_at (R3 r 0) k ≡ 1
 unfolding Link
 register_back i at R0 R1 R2 R3 B0 B1 B2 h r k (p, l, m) (Register s j) (sp, sl, jl) link one =
     let back = (register_bits i at R0 R1 R2 R3 B0 B1 B2 h r k p l).1 in
@@ -88,7 +88,7 @@ register_back i at R0 R1 R2 R3 B0 B1 B2 h r k (p, l, m) (Register s j) (sp, sl, 
 register_back i at R0 R1 R2 R3 B0 B1 B2 h r k (p, l, m) (Byte q j) (ql, jl) link one =
     (register_bits i at R0 R1 R2 R3 B0 B1 B2 h r k p l).1 (inr (link.1, (h.b_is k m).1 (inr (q, j, ql, jl, link.0, link.2, one))))
 
-pub register_root : (i : Retired) (at : ℕ) (R0 R1 R2 R3 B0 B1 B2 : ℕ → ℕ → ℕ) → Parts i at R0 R1 R2 R3 B0 B1 B2 → (r k : ℕ) → IsPlace (Register r k) → Root i (Register r k) → bit_at (R3 r 0) k ≡ 1
+pub register_root : (i : Retired) (at : ℕ) (R0 R1 R2 R3 B0 B1 B2 : ℕ → ℕ → ℕ) → Parts i at R0 R1 R2 R3 B0 B1 B2 → (r k : ℕ) → IsProgramBit (Register r k) → Root i (Register r k) → bit_at (R3 r 0) k ≡ 1
 unfolding Root
 register_root i at R0 R1 R2 R3 B0 B1 B2 h r k (p, l, m) root =
     let back = (register_bits i at R0 R1 R2 R3 B0 B1 B2 h r k p l).1 in
@@ -97,7 +97,7 @@ register_root i at R0 R1 R2 R3 B0 B1 B2 h r k (p, l, m) root =
       | inr b ↦ back (inr (b.0, (h.b_is k m).1 (inl (inr b.1))))
     ]
 
-pub byte_back : (i : Retired) (at : ℕ) (R0 R1 R2 R3 B0 B1 B2 : ℕ → ℕ → ℕ) → Parts i at R0 R1 R2 R3 B0 B1 B2 → (p k : ℕ) → IsPlace (Byte p k) → (q : Place) → IsPlace q → Link i (Byte p k) q → bit_in R0 B0 q ≡ 1 → bit_at (B2 p 0) k ≡ 1
+pub byte_back : (i : Retired) (at : ℕ) (R0 R1 R2 R3 B0 B1 B2 : ℕ → ℕ → ℕ) → Parts i at R0 R1 R2 R3 B0 B1 B2 → (p k : ℕ) → IsProgramBit (Byte p k) → (q : ProgramBit) → IsProgramBit q → Link i (Byte p k) q → bit_in R0 B0 q ≡ 1 → bit_at (B2 p 0) k ≡ 1
 unfolding Link
 byte_back i at R0 R1 R2 R3 B0 B1 B2 h p k (l, m) (Register s j) (sp, sl, jl) (w, loaded, link) one =
     let o : bit_at h.result j ≡ 1 = (h.result_is j jl).1 (s, sp, sl, w, one) in
@@ -113,7 +113,7 @@ byte_root i p k root = root
 pub steps_back : (i : Retired) (at : ℕ) (registers registers' : List (List Change)) (bytes bytes' : List (ℕ × List Change)) (R1 R2 B1 : ℕ → ℕ → ℕ) → Parts i at (register_mask registers) R1 R2 (register_mask registers') (byte_mask bytes) B1 (byte_mask bytes') → StepsBack i at registers bytes registers' bytes'
 steps_back i at registers registers' bytes bytes' R1 R2 B1 h = record { later = later; settled = settled; now = λ p is. (leads p is, back p is) }
   where
-    later : (p : Place) (x : ℕ) → IsPlace p → at < x → need_bit registers' bytes' p x ≡ need_bit registers bytes p x
+    later : (p : ProgramBit) (x : ℕ) → IsProgramBit p → at < x → need_bit registers' bytes' p x ≡ need_bit registers bytes p x
     later (Register r k) x (p, l, m) b = ap (λ v. bit_at v k) (register_later i at (register_mask registers) R1 R2 (register_mask registers') (byte_mask bytes) B1 (byte_mask bytes') h r x p l b)
     later (Byte p k) x (l, m) b = ap (λ v. bit_at v k) (byte_later i at (register_mask registers) R1 R2 (register_mask registers') (byte_mask bytes) B1 (byte_mask bytes') h p x l b)
 
@@ -123,11 +123,11 @@ steps_back i at registers registers' bytes bytes' R1 R2 B1 h = record { later = 
       byte = λ p x l b. byte_settled i at (register_mask registers) R1 R2 (register_mask registers') (byte_mask bytes) B1 (byte_mask bytes') h p x l b (old.byte p x l b);
     }
 
-    same : (q : Place) → bit_in (register_mask registers) (byte_mask bytes) q ≡ need_bit registers bytes q 0
+    same : (q : ProgramBit) → bit_in (register_mask registers) (byte_mask bytes) q ≡ need_bit registers bytes q 0
     same (Register r k) = refl
     same (Byte p k) = refl
 
-    leads : (p : Place) → IsPlace p → need_bit registers' bytes' p 0 ≡ 1 → Root i p ⊎ ((q : Place) × IsPlace q × Link i p q × (need_bit registers bytes q 0 ≡ 1))
+    leads : (p : ProgramBit) → IsProgramBit p → need_bit registers' bytes' p 0 ≡ 1 → Root i p ⊎ ((q : ProgramBit) × IsProgramBit q × Link i p q × (need_bit registers bytes q 0 ≡ 1))
     leads (Register r k) is one =
         elim (register_leads i at (register_mask registers) R1 R2 (register_mask registers') (byte_mask bytes) B1 (byte_mask bytes') h r k is one) [
           | inl root ↦ inl root
@@ -137,7 +137,7 @@ steps_back i at registers registers' bytes bytes' R1 R2 B1 h = record { later = 
         let (q, qs, link, o) = byte_leads i at (register_mask registers) R1 R2 (register_mask registers') (byte_mask bytes) B1 (byte_mask bytes') h p k is one in
         inr (q, qs, link, sym (same q) ∙ o)
 
-    back : (p : Place) → IsPlace p → Root i p ⊎ ((q : Place) × IsPlace q × Link i p q × (need_bit registers bytes q 0 ≡ 1)) → need_bit registers' bytes' p 0 ≡ 1
+    back : (p : ProgramBit) → IsProgramBit p → Root i p ⊎ ((q : ProgramBit) × IsProgramBit q × Link i p q × (need_bit registers bytes q 0 ≡ 1)) → need_bit registers' bytes' p 0 ≡ 1
     back (Register r k) is s =
         elim s [
           | inl root ↦ register_root i at (register_mask registers) R1 R2 (register_mask registers') (byte_mask bytes) B1 (byte_mask bytes') h r k is root

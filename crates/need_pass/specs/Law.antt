@@ -4,20 +4,13 @@ use Rattle.std.specs.List.{All}
 use Rattle.avf_base.specs.declared.end.End.{End}
 use Rattle.elf_load.specs.Image.{LoadedImage, IsImage}
 use Rattle.rv_isa.specs.declared.effect.Retired.{Retired}
-use Rattle.rv_isa.specs.Effects.{operand_b}
-use Rattle.rv_isa.specs.Instruction.{State, reg, end_of, action_in, op_at, instruction}
-use Rattle.rv_isa.specs.Runs.{EndedRun, IsTrace, after, reset}
+use Rattle.rv_isa.specs.Accesses.{next_action}
+use Rattle.rv_isa.specs.Instruction.{State, end_of, instruction}
+use Rattle.rv_isa.specs.Runs.{ProgramTrace, IsTrace, trace_at}
 use Rattle.rv_table.specs.Actions.{access_of}
 use Rattle.rv_table.specs.Effects.{byte_put}
 use Rattle.rv_table.specs.declared.action.Access.{Access}
-use Rattle.rv_table.specs.declared.action.Action.{Action}
 use Rattle.need_pass.specs.Needed.{Agrees}
-
--- what the next instruction of a state does
-abbrev pub next_action : LoadedImage → State → Action
-next_action image at =
-    let op = op_at image at.pc in
-    action_in image op at.pc (reg at.registers op.rs1) (operand_b op at)
 
 -- What is seen of an instruction from outside.
 pub record Seen : Type 0 where
@@ -43,21 +36,17 @@ pub record IsWords (at : State) : Type 0 where
   pub count : at.count < 2 ^ 32
   pub clocks : All (λ clock. clock < 2 ^ 32) at.clocks
 
--- state i of the run of an image, with the clock values that its reads of the cycle counter take
-abbrev pub recorded : LoadedImage → List ℕ → ℕ → State
-recorded image clocks i = after image i (reset image clocks)
-
 -- What need promises of a recorded run with these instructions, for every state that agrees with one of its states.
 pub record NeedLaw (image : LoadedImage) (clocks : List ℕ) (entries : List Retired) : Type 0 where
   -- the next instruction does the same
-  pub sees : (i : ℕ) (at : State) → i < length entries → IsWords at → Agrees (drop i entries) (recorded image clocks i) at → seen image at ≡ seen image (recorded image clocks i)
+  pub sees : (i : ℕ) (at : State) → i < length entries → IsWords at → Agrees (drop i entries) (trace_at image clocks i) at → seen image at ≡ seen image (trace_at image clocks i)
   -- and the states after it agree
   pub words : (at : State) → IsWords at → IsWords (instruction image at)
-  pub agrees : (i : ℕ) (at : State) → i < length entries → IsWords at → Agrees (drop i entries) (recorded image clocks i) at → Agrees (drop (i + 1) entries) (recorded image clocks (i + 1)) (instruction image at)
+  pub agrees : (i : ℕ) (at : State) → i < length entries → IsWords at → Agrees (drop i entries) (trace_at image clocks i) at → Agrees (drop (i + 1) entries) (trace_at image clocks (i + 1)) (instruction image at)
   -- so all further instructions do the same, to the end of the run
-  pub runs : (i n : ℕ) (at : State) → i + n ≤ length entries → IsWords at → Agrees (drop i entries) (recorded image clocks i) at → seen_of image n at ≡ seen_of image n (recorded image clocks i)
+  pub runs : (i n : ℕ) (at : State) → i + n ≤ length entries → IsWords at → Agrees (drop i entries) (trace_at image clocks i) at → seen_of image n at ≡ seen_of image n (trace_at image clocks i)
 
 -- the law, for the image and the clock values that the run is the trace of
-abbrev pub HasNeedLaw : EndedRun → Type 0
+abbrev pub HasNeedLaw : ProgramTrace → Type 0
 HasNeedLaw run =
     (image : LoadedImage) (clocks : List ℕ) → IsImage image → All (λ clock. clock < 2 ^ 32) clocks → IsTrace image clocks run → NeedLaw image clocks run.entries

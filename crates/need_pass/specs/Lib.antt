@@ -3,6 +3,6 @@ pub mod Law
 pub mod Links
 pub mod Masks
 pub mod Needed
-pub mod Places
+pub mod ProgramBits
 pub mod Steps
 pub mod Tables

@@ -12,7 +12,7 @@ use Rattle.rv_table.specs.declared.operation.LoadKind.{LoadKind}
 use Rattle.rv_table.specs.declared.operation.LoadKind.TheVariants.{Lb, Lh}
 use Rattle.rv_table.specs.declared.operation.Operation.{Operation}
 use Rattle.rv_table.specs.declared.operation.Operation.TheVariants.{Load, AluImmediate, Alu}
-use Rattle.need_pass.specs.Places.{Place, Register, Byte}
+use Rattle.need_pass.specs.ProgramBits.{ProgramBit, Register, Byte}
 
 -- From bit k of a to bit j of the result of two registers. An operand bit of AND and OR that the other masks has no link;
 -- where both could mask, it is a that counts. Sums carry upwards only. A shift moves its bits, and SRA spreads bit 31. In
@@ -48,7 +48,7 @@ FromImmediate And a n k j = (k ≡ j) × (bit_at n k ≡ 1)
 FromImmediate Or a n k j = (k ≡ j) × (bit_at n k ≡ 0)
 FromImmediate kind a n k j = FromA kind a n k j
 
--- from bit k of the loaded bytes to bit j of the register: its own place, and from the sign bit of LB and LH all above
+-- from bit k of the loaded bytes to bit j of the register: itself, and from the sign bit of LB and LH all above
 abbrev pub FromLoaded : LoadKind → ℕ → ℕ → Type 0
 FromLoaded Lb k j = (k ≡ j) ⊎ ((k ≡ 7) × (7 < j))
 FromLoaded Lh k j = (k ≡ j) ⊎ ((k ≡ 15) × (15 < j))
@@ -102,9 +102,9 @@ LinkOperand i r k j =
     ((r ≡ i.op.rs1) × LinkA (operation_of i.op.code) i.op i.a i.b k j)
     ⊎ ((r ≡ i.op.rs2) × LinkB (operation_of i.op.code) i.a i.b k j)
 
--- A link of instruction i from a place before it to one after it: what isn't written stays, a written register comes from
+-- A link of instruction i from a bit before it to one after it: what isn't written stays, a written register comes from
 -- the operands or the loaded bytes, and a stored byte from rs2. An instruction that traps writes nothing.
-unfoldable pub Link : Retired → Place → Place → Type 0
+unfoldable pub Link : Retired → ProgramBit → ProgramBit → Type 0
 Link i (Register r k) (Register s j) =
     ((writes i s ≡ false) × (r ≡ s) × (k ≡ j)) ⊎ ((writes i s ≡ true) × LinkOperand i r k j)
 Link i (Byte p k) (Register s j) =

@@ -7,7 +7,7 @@ use Rattle.rv_table.specs.declared.op.Op.{Op}
 use Rattle.rv_table.specs.declared.operation.Operation.{Operation}
 use Rattle.rv_table.specs.declared.operation.Operation.TheVariants.{Jalr, Branch, Load, Store, Ecall}
 use Rattle.need_pass.specs.Links.{Link}
-use Rattle.need_pass.specs.Places.{Place, Register, Byte, IsPlace, bit_of}
+use Rattle.need_pass.specs.ProgramBits.{ProgramBit, Register, Byte, IsProgramBit, bit_of}
 
 -- Bit k of rs1 is a root of a load, a store, a branch and a system call (whose rs1 is register 17), and of JALR, whose target drops
 -- bit 0: there that bit counts only through the carry of an odd immediate.
@@ -26,21 +26,21 @@ RootB Ecall a k = (k < 8) × ((a ≡ 1) ⊎ (a ≡ 93))
 RootB _ a k = ⊥
 
 -- the bits on which what is seen of instruction i depends
-unfoldable pub Root : Retired → Place → Type 0
+unfoldable pub Root : Retired → ProgramBit → Type 0
 Root i (Register r k) =
     ((r ≡ i.op.rs1) × RootA (operation_of i.op.code) i.op k) ⊎ ((r ≡ i.op.rs2) × RootB (operation_of i.op.code) i.a k)
 Root i (Byte p k) = ⊥
 
--- A place is needed before the first of these instructions where it is a root of it, or a link of it leads to a place that
+-- A bit is needed before the first of these instructions where it is a root of it, or a link of it leads to a bit that
 -- the others need.
-unfoldable pub Needed : List Retired → Place → Type 0
+unfoldable pub Needed : List Retired → ProgramBit → Type 0
 Needed [] p = ⊥
-Needed (i ∷ later) p = IsPlace p × (Root i p ⊎ ((q : Place) × Link i p q × Needed later q))
+Needed (i ∷ later) p = IsProgramBit p × (Root i p ⊎ ((q : ProgramBit) × Link i p q × Needed later q))
 
 -- A state agrees with the recorded one, before these instructions of the recorded run, where its address, count and clock values
--- are the same and each place that they need holds the same bit.
+-- are the same and each bit that they need is the same.
 pub record Agrees (later : List Retired) (recorded at : State) : Type 0 where
   pub pc : at.pc ≡ recorded.pc
   pub count : at.count ≡ recorded.count
   pub clocks : at.clocks ≡ recorded.clocks
-  pub bits : (p : Place) → Needed later p → bit_of at p ≡ bit_of recorded p
+  pub bits : (p : ProgramBit) → Needed later p → bit_of at p ≡ bit_of recorded p

@@ -4,7 +4,7 @@ use Rattle.std.specs.Int.{bit_at}
 use Rattle.rv_isa.specs.declared.effect.Retired.{Retired}
 use Rattle.need_pass.specs.Histories.{mask_at, changes_of}
 use Rattle.need_pass.specs.Needed.{Needed}
-use Rattle.need_pass.specs.Places.{Place, Register, Byte}
+use Rattle.need_pass.specs.ProgramBits.{ProgramBit, Register, Byte}
 use Rattle.need_pass.specs.declared.history.Change.{Change}
 
 -- the mask of register r before instruction i, from the changes of registers 1 to 31
@@ -15,8 +15,8 @@ register_mask registers r i = mask_at (slice_index_or registers (r - 1) []) i
 abbrev pub byte_mask : List (ℕ × List Change) → ℕ → ℕ → ℕ
 byte_mask bytes p i = mask_at (changes_of bytes p) i
 
--- the bit of a place in these masks
-abbrev pub need_bit : List (List Change) → List (ℕ × List Change) → Place → ℕ → ℕ
+-- a bit in these masks
+abbrev pub need_bit : List (List Change) → List (ℕ × List Change) → ProgramBit → ℕ → ℕ
 need_bit registers bytes (Register r k) i = bit_at (register_mask registers r i) k
 need_bit registers bytes (Byte p k) i = bit_at (byte_mask bytes p i) k
 

@@ -25,8 +25,8 @@ kind_of_store Sw = 8
 unfoldable pub latch_of : Action → ExecutedLatch
 latch_of Nothing = no_executed
 latch_of (Writes rd value) = record { valid = true; kind = 0; rd = rd; x = value; y = 0; cause = 0 }
-latch_of (Loads kind rd place) = record { valid = true; kind = kind_of_load kind; rd = rd; x = place; y = 0; cause = 0 }
-latch_of (Stores kind place value) = record { valid = true; kind = kind_of_store kind; rd = 0; x = place; y = value; cause = 0 }
+latch_of (Loads kind rd address) = record { valid = true; kind = kind_of_load kind; rd = rd; x = address; y = 0; cause = 0 }
+latch_of (Stores kind address value) = record { valid = true; kind = kind_of_store kind; rd = 0; x = address; y = value; cause = 0 }
 latch_of (Puts value) = record { valid = true; kind = 9; rd = 0; x = value; y = 0; cause = 0 }
 latch_of (Exits value) = record { valid = true; kind = 10; rd = 0; x = value; y = 0; cause = 0 }
 latch_of (Traps cause) = record { valid = true; kind = 11; rd = 0; x = 0; y = 0; cause = cause }

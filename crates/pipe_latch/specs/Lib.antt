@@ -1,10 +1,7 @@
 pub mod DecodedBits
-pub mod DecodedLaws
 pub mod ExecutedBits
-pub mod ExecutedLaws
 pub mod Execution
 pub mod Forwarding
 pub mod LatchedActions
 pub mod Latches
 pub mod ResultBits
-pub mod ResultLaws

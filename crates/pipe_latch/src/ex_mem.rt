@@ -41,7 +41,6 @@ impl Model for ExMem {
 
 impl Struck for ExMem {
     ghost use Rattle.pipe_latch.specs.ExecutedBits as executed_bits;
-    ghost use Rattle.pipe_latch.specs.ExecutedLaws as executed_laws;
 
     ghost IsFit = { executed_bits.IsFit };
 
@@ -50,8 +49,6 @@ impl Struck for ExMem {
     ghost bit_of = { executed_bits.bit_of };
 
     ghost flipped = { executed_bits.flipped };
-
-    ghost laws = { executed_laws.laws };
 
     fn bits(&self) -> u32 {
         79
@@ -86,6 +83,8 @@ impl Struck for ExMem {
         let _x = self.x;
         let _y = self.y;
     }
+
+    fn laws(&self) {}
 }
 
 impl ExMem {
@@ -141,7 +140,7 @@ impl ExMem {
         Action::Loads {
             kind,
             rd: self.rd,
-            place: self.x,
+            address: self.x,
         }
     }
 
@@ -150,7 +149,7 @@ impl ExMem {
     {
         Action::Stores {
             kind,
-            place: self.x,
+            address: self.x,
             value: self.y,
         }
     }
@@ -174,15 +173,19 @@ pub fn latch_for(action: &Action) -> ExMem
             x: value,
             ..written
         },
-        Action::Loads { kind, rd, place } => ExMem {
+        Action::Loads { kind, rd, address } => ExMem {
             kind: kind_of_load(kind),
             rd,
-            x: place,
+            x: address,
             ..written
         },
-        Action::Stores { kind, place, value } => ExMem {
+        Action::Stores {
+            kind,
+            address,
+            value,
+        } => ExMem {
             kind: kind_of_store(kind),
-            x: place,
+            x: address,
             y: value,
             ..written
         },

@@ -90,10 +90,10 @@ fn judged_by_image(action: Action, image: &Image) -> Action
     ensures { result ≡ judged (word_in_ram image.now) (executable image.now) action }
 {
     match action {
-        Action::Loads { place, .. } => action.judged(image.word_in_ram(place / 4), false),
-        Action::Stores { kind, place, .. } => {
-            let in_ram = image.word_in_ram(place / 4);
-            action.judged(in_ram, in_ram && overwrites_code(kind, place, image))
+        Action::Loads { address, .. } => action.judged(image.word_in_ram(address / 4), false),
+        Action::Stores { kind, address, .. } => {
+            let in_ram = image.word_in_ram(address / 4);
+            action.judged(in_ram, in_ram && overwrites_code(kind, address, image))
         }
         _ => action,
     }
@@ -101,10 +101,10 @@ fn judged_by_image(action: Action, image: &Image) -> Action
 
 #[tactic(auto, using(crate::proofs::Judged::any_executable_some, crate::proofs::Judged::room_above))]
 /// Whether a store in RAM writes an executable byte.
-fn overwrites_code(kind: StoreKind, place: u32, image: &Image) -> bool
-    requires { word_in_ram image.now (place / 4) ≡ true }
-    ensures { result ≡ some_executable (executable image.now) place (store_size kind) }
+fn overwrites_code(kind: StoreKind, address: u32, image: &Image) -> bool
+    requires { word_in_ram image.now (address / 4) ≡ true }
+    ensures { result ≡ some_executable (executable image.now) address (store_size kind) }
 {
     image.is_image();
-    image.any_executable(place, kind.size())
+    image.any_executable(address, kind.size())
 }

@@ -43,7 +43,6 @@ impl Model for IdEx {
 
 impl Struck for IdEx {
     ghost use Rattle.pipe_latch.specs.DecodedBits as decoded_bits;
-    ghost use Rattle.pipe_latch.specs.DecodedLaws as decoded_laws;
 
     ghost IsFit = { decoded_bits.IsFit };
 
@@ -52,8 +51,6 @@ impl Struck for IdEx {
     ghost bit_of = { decoded_bits.bit_of };
 
     ghost flipped = { decoded_bits.flipped };
-
-    ghost laws = { decoded_laws.laws };
 
     fn bits(&self) -> u32 {
         153
@@ -101,6 +98,8 @@ impl Struck for IdEx {
         let _b = self.b;
         let _imm = self.imm;
     }
+
+    fn laws(&self) {}
 }
 
 impl IdEx {

@@ -28,7 +28,6 @@ impl Model for MemWb {
 
 impl Struck for MemWb {
     ghost use Rattle.pipe_latch.specs.ResultBits as result_bits;
-    ghost use Rattle.pipe_latch.specs.ResultLaws as result_laws;
 
     ghost IsFit = { result_bits.IsFit };
 
@@ -37,8 +36,6 @@ impl Struck for MemWb {
     ghost bit_of = { result_bits.bit_of };
 
     ghost flipped = { result_bits.flipped };
-
-    ghost laws = { result_laws.laws };
 
     fn bits(&self) -> u32 {
         37
@@ -60,6 +57,8 @@ impl Struck for MemWb {
     fn fits(&self) {
         let _value = self.value;
     }
+
+    fn laws(&self) {}
 }
 
 impl MemWb {

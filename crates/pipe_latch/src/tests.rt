@@ -143,14 +143,14 @@ fn actions(rt: HostRuntime) {
             Action::Loads {
                 kind: LoadKind::Lh,
                 rd: 9,
-                place: 100,
+                address: 100,
             },
         ),
         (
             8,
             Action::Stores {
                 kind: StoreKind::Sw,
-                place: 100,
+                address: 100,
                 value: 200,
             },
         ),

@@ -1,10 +1,7 @@
 -- The bits of the branch history: counter i at bits 2 i and 2 i + 1.
 use Rattle.std.specs.Prelude.{ℕ, ◌^◌, ◌<◌, List, bit_xor}
-use Rattle.std.proofs.Common.{arith}
 use Rattle.std.specs.Int.{bit_at}
 use Rattle.bit_field.specs.Arrays.{bit_of_array, flip_array, IsArray}
-use Rattle.bit_field.specs.Laws.{FlipLaws}
-use Rattle.bit_field.proofs.Arrays.{laws_of_array, laws_of_number}
 
 abbrev pub IsFit : List ℕ → Type 0
 IsFit = IsArray 64 (λ counter. counter < 2 ^ 2)
@@ -14,6 +11,3 @@ bit_of = bit_of_array 2 0 bit_at
 
 abbrev pub flipped : List ℕ → ℕ → List ℕ
 flipped = flip_array 2 0 (λ counter k. bit_xor counter (2 ^ k))
-
-pub laws : FlipLaws IsFit (λ _. 128) bit_of flipped
-laws = laws_of_array 64 2 0 (λ counter. counter < 2 ^ 2) bit_at (λ counter k. bit_xor counter (2 ^ k)) (omega arith) (laws_of_number 2)

@@ -36,8 +36,6 @@ impl Struck for History {
 
     ghost flipped = { history_bits.flipped };
 
-    ghost laws = { history_bits.laws };
-
     fn bits(&self) -> u32 {
         128
     }
@@ -53,6 +51,8 @@ impl Struck for History {
     fn fits(&self) {
         let _counters = &self.counters;
     }
+
+    fn laws(&self) {}
 }
 
 impl History {

@@ -41,8 +41,6 @@ impl Struck for BranchTarget {
 
     ghost flipped = { entry_bits.flipped };
 
-    ghost laws = { entry_bits.laws };
-
     fn bits(&self) -> u32 {
         57
     }
@@ -66,6 +64,8 @@ impl Struck for BranchTarget {
     fn fits(&self) {
         let _tag = self.tag;
     }
+
+    fn laws(&self) {}
 }
 
 /// The branch target buffer. 912 bits can be struck: entry i from bit 57 i.
@@ -98,8 +98,6 @@ impl Struck for Targets {
 
     ghost flipped = { target_bits.flipped };
 
-    ghost laws = { target_bits.laws };
-
     fn bits(&self) -> u32 {
         912
     }
@@ -119,6 +117,8 @@ impl Struck for Targets {
             entry.fits();
         }
     }
+
+    fn laws(&self) {}
 }
 
 impl Targets {

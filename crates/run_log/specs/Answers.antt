@@ -3,7 +3,7 @@ use Rattle.std.specs.Prelude.{◌≡◌, ◌≤◌, ◌*◌, ℕ, List, ◌++◌
 use Rattle.elf_load.specs.Image.{LoadedImage}
 use Rattle.bit_field.specs.declared.shapes.Shape.{Shape}
 use Rattle.cyc_machine.specs.Run.{IsRunning, clocks_below}
-use Rattle.flush_view.specs.Positions.{trace_at}
+use Rattle.rv_isa.specs.Runs.{trace_at}
 use Rattle.flush_view.specs.RunLaw.{EndsAfter}
 use Rattle.run_record.specs.Run.{IsRecord, RecordedRun}
 use Rattle.run_log.specs.declared.recording.RecordError.{RecordError}

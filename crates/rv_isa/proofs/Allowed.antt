@@ -12,9 +12,9 @@ use Rattle.rv_table.specs.declared.operation.StoreKind.TheVariants.{Sb, Sh, Sw}
 use Rattle.rv_table.specs.declared.action.Action.TheVariants.{Stores}
 
 -- a place in RAM leaves room for four bytes
-pub word_below : (image : LoadedImage) (place : ℕ) → IsImage image → word_in_ram image (place / 4) ≡ true → place + 4 ≤ 2 ^ 32
+pub word_below : (image : LoadedImage) (address : ℕ) → IsImage image → word_in_ram image (address / 4) ≡ true → address + 4 ≤ 2 ^ 32
 unfolding word_in_ram in_ram
-word_below image place loaded h = grind (arith, nat_tests, loaded.aligned, loaded.blocks, loaded.below)
+word_below image address loaded h = grind (arith, nat_tests, loaded.aligned, loaded.blocks, loaded.below)
 
 -- one, two or four bytes
 any_of : (image : LoadedImage) (x : ℕ) (kind : StoreKind) → any_executable image x (store_size kind) ≡ some_executable (executable image) x (store_size kind)
@@ -32,7 +32,7 @@ unfolding judged judged_by
 judged_store image kind x y = rw (any_of image x kind) (grind (arith, nat_tests))
 
 -- judged by what the program asks of the action's own access
-pub allowed_at : (image : LoadedImage) (action : Action) (access : Access) → access_of action ≡ Some access → judged_by (word_in_ram image (access.place / 4)) (word_in_ram image (access.place / 4) && (access.writes && any_executable image access.place access.size)) action ≡ judged (word_in_ram image) (executable image) action
+pub allowed_at : (image : LoadedImage) (action : Action) (access : Access) → access_of action ≡ Some access → judged_by (word_in_ram image (access.address / 4)) (word_in_ram image (access.address / 4) && (access.writes && any_executable image access.address access.size)) action ≡ judged (word_in_ram image) (executable image) action
 unfolding judged judged_by access_of
 allowed_at image action access e = grind (arith, nat_tests, judged_store)
 

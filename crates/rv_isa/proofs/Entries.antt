@@ -18,7 +18,7 @@ use Rattle.rv_isa.proofs.Steps.{effect_can_commit}
 use Rattle.rv_isa.proofs.Stores.{asked_by-aligned, judged-store}
 use Rattle.rv_isa.specs.Effects.{IsAccess, IsRetired, effect_by, effect_of, load_of, operand_b, retired_at, store_of}
 use Rattle.rv_isa.specs.Instruction.{State, action_in, op_at, op_of_word, reg}
-use Rattle.rv_isa.specs.Runs.{ComesFromImage, EndedRun, after, reset}
+use Rattle.rv_isa.specs.Runs.{ComesFromImage, ProgramTrace, after, reset}
 use Rattle.rv_isa.specs.declared.effect.Retired.{Retired}
 
 -- a load that is asked for is aligned; an address is one of 32 bits
@@ -75,7 +75,7 @@ retired_well image at =
       store = store_access image op at.pc a b (action_in image op at.pc a b) refl;
     }
 
-pub entry_well : (run : EndedRun) (i : ℕ) (entry : Retired) → ComesFromImage run → i < length run.entries → slice_get run.entries i ≡ Some entry → IsRetired entry
+pub entry_well : (run : ProgramTrace) (i : ℕ) (entry : Retired) → ComesFromImage run → i < length run.entries → slice_get run.entries i ≡ Some entry → IsRetired entry
 entry_well run i entry from h e =
     let here : retired_at from.image (after from.image i (reset from.image from.clocks)) ≡ entry = cc (from.traced.retired i h) in
     subst IsRetired here (retired_well from.image (after from.image i (reset from.image from.clocks)))

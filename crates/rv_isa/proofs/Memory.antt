@@ -15,18 +15,18 @@ use Rattle.rv_table.specs.declared.operation.LoadKind.{LoadKind}
 use Rattle.rv_isa.specs.Instruction.{given}
 
 -- 1, 2 or 4 bytes in RAM stand in its list
-pub place_in_ram : (image : LoadedImage) (place size : ℕ) → IsInRam image place size → (image.base ≤ place) × (place + size ≤ image.base + length image.ram) × (size ≤ 4)
+pub place_in_ram : (image : LoadedImage) (address size : ℕ) → IsInRam image address size → (image.base ≤ address) × (address + size ≤ image.base + length image.ram) × (size ≤ 4)
 unfolding in_ram
-place_in_ram image place size within =
-    let first : IsTrue (in_ram image (place + 0)) = within.bytes 0 (grind (arith, within.whole)) in
-    let last : IsTrue (in_ram image (place + (size - 1))) = within.bytes (size - 1) (grind (arith, within.whole)) in
+place_in_ram image address size within =
+    let first : IsTrue (in_ram image (address + 0)) = within.bytes 0 (grind (arith, within.whole)) in
+    let last : IsTrue (in_ram image (address + (size - 1))) = within.bytes (size - 1) (grind (arith, within.whole)) in
     grind (arith, nat_tests, within.whole, first, last)
 
--- a value stored at such a place
-pub stored_ram : (image : LoadedImage) (bytes old : List ℕ) (base place size value : ℕ) → base ≡ image.base → IsInRam image place size → ((p : ℕ) → slice_index bytes p ≡ byte_stored (place - base) size value old p) → ram_byte image bytes ≡ with_store (Some (place, size, value)) (ram_byte image old)
+-- a value stored at such an address
+pub stored_ram : (image : LoadedImage) (bytes old : List ℕ) (base address size value : ℕ) → base ≡ image.base → IsInRam image address size → ((p : ℕ) → slice_index bytes p ≡ byte_stored (address - base) size value old p) → ram_byte image bytes ≡ with_store (Some (address, size, value)) (ram_byte image old)
 unfolding in_ram ram_byte
-stored_ram image bytes old base place size value e within stored =
-    let at = place_in_ram image place size within in
+stored_ram image bytes old base address size value e within stored =
+    let at = place_in_ram image address size within in
     fun_ext (λ p. grind (arith, nat_tests, at, stored (p - image.base)))
 
 -- the state at reset
@@ -35,16 +35,16 @@ unfolding reset
 at_reset image registers memory clocks left entry r m p c = rw (r, m, p, c, all_zero 32) refl
 
 -- the word of RAM at a byte address
-pub word_there : (image : LoadedImage) (bytes : List ℕ) (place at : ℕ) → word_in_ram image (place / 4) ≡ true → at ≡ place / 4 * 4 - image.base → word_of_bytes (λ i. slice_index bytes (at + i)) ≡ word_at place (ram_byte image bytes)
+pub word_there : (image : LoadedImage) (bytes : List ℕ) (address at : ℕ) → word_in_ram image (address / 4) ≡ true → at ≡ address / 4 * 4 - image.base → word_of_bytes (λ i. slice_index bytes (at + i)) ≡ word_at address (ram_byte image bytes)
 unfolding word_in_ram in_ram ram_byte
-word_there image bytes place at h e = grind (arith, nat_tests)
+word_there image bytes address at h e = grind (arith, nat_tests)
 
-pub word_fits : (image : LoadedImage) (memory : List ℕ) (place : ℕ) → word_in_ram image (place / 4) ≡ true → length memory ≡ length image.ram → (image.base ≤ place / 4 * 4) × (place / 4 * 4 + 4 ≤ image.base + length memory)
+pub word_fits : (image : LoadedImage) (memory : List ℕ) (address : ℕ) → word_in_ram image (address / 4) ≡ true → length memory ≡ length image.ram → (image.base ≤ address / 4 * 4) × (address / 4 * 4 + 4 ≤ image.base + length memory)
 unfolding word_in_ram in_ram
-word_fits image memory place h e = grind (arith, nat_tests)
+word_fits image memory address h e = grind (arith, nat_tests)
 
 pub ruleset words = (word_there, word_fits)
 
 -- a load of that word
-pub given_load : (image : LoadedImage) (kind : LoadKind) (rd place word : ℕ) (memory : ℕ → ℕ) → word_in_ram image (place / 4) ≡ true → word ≡ word_at place memory → ((p : ℕ) → memory p < 256) → loaded kind place (λ p. byte_of word (p % 4)) ≡ given image (Loads kind rd place) memory
-given_load image kind rd place word memory h e bytes = rw (e, h) (sym (loaded-word kind place memory bytes))
+pub given_load : (image : LoadedImage) (kind : LoadKind) (rd address word : ℕ) (memory : ℕ → ℕ) → word_in_ram image (address / 4) ≡ true → word ≡ word_at address memory → ((p : ℕ) → memory p < 256) → loaded kind address (λ p. byte_of word (p % 4)) ≡ given image (Loads kind rd address) memory
+given_load image kind rd address word memory h e bytes = rw (e, h) (sym (loaded-word kind address memory bytes))

@@ -19,12 +19,12 @@ write_of image done memory =
 
 -- byte address and length in bytes
 abbrev pub load_of : Action → Option (ℕ × ℕ)
-load_of (Loads kind rd place) = Some (place, load_size kind)
+load_of (Loads kind rd address) = Some (address, load_size kind)
 load_of _ = None
 
 -- byte address, length in bytes, and the whole value whose low bytes are stored
 abbrev pub store_of : Action → Option (ℕ × ℕ × ℕ)
-store_of (Stores kind place value) = Some (place, store_size kind, value)
+store_of (Stores kind address value) = Some (address, store_size kind, value)
 store_of _ = None
 
 -- what an operation does at a state's address with the operands a and b (a counter read's b is the counter)
@@ -92,9 +92,9 @@ pub record IsStep (image : LoadedImage) (op : Op) (effect : Effect) (before : St
   pub puts : (operated image op before).log.output ≡ with_byte before.log.output effect.put
 
 -- 1, 2 or 4 bytes that are all in RAM
-pub record IsInRam (image : LoadedImage) (place size : ℕ) : Type 0 where
+pub record IsInRam (image : LoadedImage) (address size : ℕ) : Type 0 where
   pub whole : (size ≡ 1) ⊎ (size ≡ 2) ⊎ (size ≡ 4)
-  pub bytes : (k : ℕ) → k < size → IsTrue (in_ram image (place + k))
+  pub bytes : (k : ℕ) → k < size → IsTrue (in_ram image (address + k))
 
 -- an effect that can be committed
 pub record CanCommit (image : LoadedImage) (effect : Effect) : Type 0 where
@@ -103,10 +103,10 @@ pub record CanCommit (image : LoadedImage) (effect : Effect) : Type 0 where
   pub store : ForSome effect.store (λ store. IsInRam image store.0 store.1)
 
 -- 1, 2 or 4 bytes at an address that is a multiple of their number
-pub record IsAccess (place length : ℕ) : Type 0 where
+pub record IsAccess (address length : ℕ) : Type 0 where
   pub whole : (length ≡ 1) ⊎ (length ≡ 2) ⊎ (length ≡ 4)
-  pub aligned : place % length ≡ 0
-  pub below : place < 2 ^ 32
+  pub aligned : address % length ≡ 0
+  pub below : address < 2 ^ 32
 
 -- what holds of each instruction of a trace
 pub record IsRetired (entry : Retired) : Type 0 where

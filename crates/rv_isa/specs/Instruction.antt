@@ -38,12 +38,12 @@ put_reg rd value registers = if rd == 0 then registers else (λ r. if r == rd th
 -- that, but a struck latch can hold such an access.
 abbrev pub given : LoadedImage → Action → (ℕ → ℕ) → ℕ
 given image (Writes rd value) memory = value
-given image (Loads kind rd place) memory = if word_in_ram image (place / 4) then loaded kind place memory else 0
+given image (Loads kind rd address) memory = if word_in_ram image (address / 4) then loaded kind address memory else 0
 given image _ memory = 0
 
 abbrev pub memory_after : LoadedImage → Action → (ℕ → ℕ) → ℕ → ℕ
-memory_after image (Stores kind place value) memory =
-    if word_in_ram image (place / 4) then stored kind place value memory else memory
+memory_after image (Stores kind address value) memory =
+    if word_in_ram image (address / 4) then stored kind address value memory else memory
 memory_after image _ memory = memory
 
 -- how it ends the run

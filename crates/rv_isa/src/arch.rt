@@ -14,9 +14,7 @@ use crate::{Effect, Retired};
 use avf_base::{OutOfMemory, Steps};
 use byteorder::{ByteOrder, LittleEndian};
 use elf_load::Image;
-use rv_table::{
-    Access, Action, Op, asked, decode, is_clocked, load_value, next_address, with_counter,
-};
+use rv_table::{Access, Action, Op, asked, decode, is_clocked, loaded, next_address, with_counter};
 use std::alloc::Global;
 use std::marker::Model;
 use std::sync::ledger::Ledger;
@@ -187,7 +185,7 @@ impl<'i> Arch<'i> {
     {
         match action.access() {
             Some(access) => action.judged(
-                self.image.word_in_ram(access.place / 4),
+                self.image.word_in_ram(access.address / 4),
                 self.writes_code(&access),
             ),
             None => action,
@@ -198,11 +196,11 @@ impl<'i> Arch<'i> {
     #[tactic(auto, using(crate::proofs::Allowed::word_below))]
     fn writes_code(&self, access: &Access) -> bool
         requires { access.now.size ≤ 4 }
-        ensures { result ≡ (word_in_ram self.now.image (access.now.place / 4) && (access.now.writes && any_executable self.now.image access.now.place access.now.size)) }
+        ensures { result ≡ (word_in_ram self.now.image (access.now.address / 4) && (access.now.writes && any_executable self.now.image access.now.address access.now.size)) }
     {
-        self.image.word_in_ram(access.place / 4)
+        self.image.word_in_ram(access.address / 4)
             && access.writes
-            && self.image.any_executable(access.place, access.size)
+            && self.image.any_executable(access.address, access.size)
     }
 
     /// The register that an action writes, but for register 0, and its value.
@@ -221,8 +219,8 @@ impl<'i> Arch<'i> {
     {
         match *action {
             Action::Writes { value, .. } => value,
-            Action::Loads { kind, place, .. } if self.image.word_in_ram(place / 4) => {
-                load_value(kind, place, self.word(place))
+            Action::Loads { kind, address, .. } if self.image.word_in_ram(address / 4) => {
+                loaded(kind, address, self.word(address))
             }
             _ => 0,
         }
@@ -230,12 +228,12 @@ impl<'i> Arch<'i> {
 
     /// The word of RAM that holds a byte address.
     #[tactic(auto, using(crate::proofs::Memory::words), unfolding(elf_load::specs::Image::ram_byte))]
-    fn word(&self, place: u32) -> u32
-        requires { IsTrue (word_in_ram self.now.image (place / 4)) }
-        ensures word { result ≡ word_at place (state_of self.now).memory }
+    fn word(&self, address: u32) -> u32
+        requires { IsTrue (word_in_ram self.now.image (address / 4)) }
+        ensures word { result ≡ word_at address (state_of self.now).memory }
         ensures bytes { (p : ℕ) → (state_of self.now).memory p < 256 }
     {
-        word_from(&self.memory, (place / 4 * 4 - self.image.base()) as usize)
+        word_from(&self.memory, (address / 4 * 4 - self.image.base()) as usize)
     }
 
     /// Applies an effect: writes its register and its bytes, goes to its next address, counts one instruction more, and
@@ -312,21 +310,21 @@ fn word_from(bytes: &[u8], at: usize) -> u32
 
 /// Stores the low bytes of a value at a byte address in RAM.
 fn write_memory(memory: &mut Vec<u8>, image: &Image, store: Option<(u32, u8, u32)>)
-    requires place { ForSome store (λ store. IsInRam image.now store.0 store.1) }
+    requires address { ForSome store (λ store. IsInRam image.now store.0 store.1) }
     requires size { length memory.old.items ≡ length image.now.ram }
     ensures bytes { ram_byte image.now memory.new.items ≡ with_store store (ram_byte image.now memory.old.items) }
     ensures size { length memory.new.items ≡ length memory.old.items }
     ensures fit { (k : ℕ) → slice_index memory.new.items k < 256 }
 {
-    if let Some((place, size, value)) = store {
-        store_bytes(memory, (place - image.base()) as usize, size, value);
+    if let Some((address, size, value)) = store {
+        store_bytes(memory, (address - image.base()) as usize, size, value);
     }
 }
 
 /// Stores the low `size` bytes of a value, the lowest first, from index `at` on.
 #[tactic(auto, using(crate::proofs::Lists::stored_more))]
 fn store_bytes(bytes: &mut Vec<u8>, at: usize, size: u8, value: u32)
-    requires place { at + size ≤ length bytes.old.items }
+    requires address { at + size ≤ length bytes.old.items }
     requires size { size ≤ 4 }
     ensures bytes { (p : ℕ) → slice_index bytes.new.items p ≡ byte_stored at size value bytes.old.items p }
     ensures length { length bytes.new.items ≡ length bytes.old.items }

@@ -55,7 +55,7 @@ pub(crate) fn load_of(action: &Action) -> Option<(u32, u8)>
     ensures { result ≡ spec.load_of action.now }
 {
     match *action {
-        Action::Loads { kind, place, .. } => Some((place, kind.size() as u8)),
+        Action::Loads { kind, address, .. } => Some((address, kind.size() as u8)),
         _ => None,
     }
 }
@@ -65,7 +65,11 @@ pub(crate) fn store_of(action: &Action) -> Option<(u32, u8, u32)>
     ensures { result ≡ spec.store_of action.now }
 {
     match *action {
-        Action::Stores { kind, place, value } => Some((place, kind.size() as u8, value)),
+        Action::Stores {
+            kind,
+            address,
+            value,
+        } => Some((address, kind.size() as u8, value)),
         _ => None,
     }
 }

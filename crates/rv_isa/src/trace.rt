@@ -15,9 +15,9 @@ pub struct Trace {
 
 impl Model for Trace {
     ghost use Rattle.std.specs.Prelude.{length, ◌<◌, ◌^◌};
-    ghost use Rattle.rv_isa.specs.Runs.{ComesFromImage, EndedRun};
+    ghost use Rattle.rv_isa.specs.Runs.{ComesFromImage, ProgramTrace};
 
-    ghost Value = { EndedRun };
+    ghost Value = { ProgramTrace };
 
     ghost view = { λ t. record { entries = t.entries.items; output = t.output.items; end = t.end } };
 

@@ -5,7 +5,7 @@ use Rattle.rv_table.specs.Actions.{access_of, judged, judged_by, some_executable
 use Rattle.rv_table.specs.declared.action.Access.{Access}
 use Rattle.rv_table.specs.declared.action.Action.{Action}
 
-pub judged-at_access : (ram executable : ℕ → Bool) (action : Action) (access : Access) → access_of action ≡ Some access → judged ram executable action ≡ judged_by (ram (access.place / 4)) (some_executable executable access.place access.size) action
+pub judged-at_access : (ram executable : ℕ → Bool) (action : Action) (access : Access) → access_of action ≡ Some access → judged ram executable action ≡ judged_by (ram (access.address / 4)) (some_executable executable access.address access.size) action
 unfolding judged judged_by access_of
 judged-at_access ram executable action access e = grind (arith, nat_tests)
 

@@ -121,8 +121,8 @@ judged ram executable action = action
 
 -- the access that an action asks for: where, how many bytes, and whether it writes
 unfoldable pub access_of : Action → Option Access
-access_of (Loads kind rd x) = Some (record { place = x; size = load_size kind; writes = false })
-access_of (Stores kind x y) = Some (record { place = x; size = store_size kind; writes = true })
+access_of (Loads kind rd x) = Some (record { address = x; size = load_size kind; writes = false })
+access_of (Stores kind x y) = Some (record { address = x; size = store_size kind; writes = true })
 access_of action = None
 
 -- what memory makes of an action, told of its own place whether its word is in RAM and one of its bytes executable

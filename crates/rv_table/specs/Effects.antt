@@ -6,11 +6,11 @@ use Rattle.rv_table.specs.declared.action.Action.TheVariants.{Writes, Loads, Put
 -- the register that it writes, or 0
 abbrev pub written_register : Action → ℕ
 written_register (Writes rd value) = rd
-written_register (Loads kind rd place) = rd
+written_register (Loads kind rd address) = rd
 written_register _ = 0
 
 abbrev pub is_load : Action → Bool
-is_load (Loads kind rd place) = true
+is_load (Loads kind rd address) = true
 is_load _ = false
 
 -- the byte that it puts

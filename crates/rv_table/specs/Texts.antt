@@ -1,5 +1,6 @@
 -- The assembler's spelling of an operation: its mnemonic and its operands.
-use Rattle.std.specs.Prelude.{ℕ, ◌/◌, ◌^◌, ◌==◌, ◌||◌, ◌++◌, Bool, true, false, not, IsTrue, List, [], ◌∷◌, codes, decimal, if◌then◌else◌}
+use Rattle.std.specs.Prelude.{ℕ, ◌/◌, ◌^◌, ◌==◌, ◌||◌, Bool, true, false, not, IsTrue, List, [], ◌∷◌, codes, decimal, if◌then◌else◌}
+use Rattle.std.specs.List.{concat}
 use Rattle.std.specs.Fmt.{signed_decimal}
 use Rattle.rv_table.specs.Arithmetic.{signed}
 use Rattle.rv_table.specs.Codes.{form_of, has_row}
@@ -109,19 +110,15 @@ register_name r =
 abbrev pub signed_text : ℕ → List ℕ
 signed_text imm = signed_decimal (signed imm)
 
-abbrev pub joined : List (List ℕ) → List ℕ
-joined [] = []
-joined (piece ∷ pieces) = piece ++ joined pieces
-
 -- the operands: three, or two, of which the last may be an address `n(rs1)`
 abbrev pub three : List ℕ → List ℕ → List ℕ → List ℕ → List ℕ
-three name first second third = joined (name ∷ codes " " ∷ first ∷ codes ", " ∷ second ∷ codes ", " ∷ third ∷ [])
+three name first second third = concat (name ∷ codes " " ∷ first ∷ codes ", " ∷ second ∷ codes ", " ∷ third ∷ [])
 
 abbrev pub two : List ℕ → List ℕ → List ℕ → List ℕ
-two name first second = joined (name ∷ codes " " ∷ first ∷ codes ", " ∷ second ∷ [])
+two name first second = concat (name ∷ codes " " ∷ first ∷ codes ", " ∷ second ∷ [])
 
 abbrev pub at_address : List ℕ → List ℕ → List ℕ → List ℕ → List ℕ
-at_address name first offset base = joined (name ∷ codes " " ∷ first ∷ codes ", " ∷ offset ∷ codes "(" ∷ base ∷ codes ")" ∷ [])
+at_address name first offset base = concat (name ∷ codes " " ∷ first ∷ codes ", " ∷ offset ∷ codes "(" ∷ base ∷ codes ")" ∷ [])
 
 -- JALR and the loads name an address
 abbrev pub names_address : Operation → Bool
@@ -141,7 +138,7 @@ text_by S op = at_address (mnemonic op.code) (register_name op.rs2) (signed_text
 text_by Shift op = three (mnemonic op.code) (register_name op.rd) (register_name op.rs1) (decimal op.imm)
 text_by R op = three (mnemonic op.code) (register_name op.rd) (register_name op.rs1) (register_name op.rs2)
 text_by Call op = mnemonic op.code
-text_by Counter op = joined (mnemonic op.code ∷ codes " " ∷ register_name op.rd ∷ [])
+text_by Counter op = concat (mnemonic op.code ∷ codes " " ∷ register_name op.rd ∷ [])
 text_by NoFields op = mnemonic op.code
 
 unfoldable pub text : Op → List ℕ

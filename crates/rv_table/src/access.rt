@@ -16,16 +16,16 @@ impl LoadKind {
         }
     }
 
-    /// The lanes of its word that a load at byte address `place` reads: bit i for byte i.
-    pub fn lanes(self, place: u32) -> u8
-        ensures mask { result ≡ lane_mask (load_size self) place }
+    /// The lanes of its word that a load at byte address `address` reads: bit i for byte i.
+    pub fn lanes(self, address: u32) -> u8
+        ensures mask { result ≡ lane_mask (load_size self) address }
         ensures some { 0 < result }
         ensures within { result < 16 }
     {
         match self {
-            LoadKind::Lb | LoadKind::Lbu => byte_lane(place),
-            LoadKind::Lh | LoadKind::Lhu => half_lanes(place),
-            LoadKind::Lw => word_lanes(place),
+            LoadKind::Lb | LoadKind::Lbu => byte_lane(address),
+            LoadKind::Lh | LoadKind::Lhu => half_lanes(address),
+            LoadKind::Lw => word_lanes(address),
         }
     }
 }
@@ -42,27 +42,27 @@ impl StoreKind {
         }
     }
 
-    /// The lanes of its word that a store at byte address `place` writes: bit i for byte i.
-    pub fn lanes(self, place: u32) -> u8
-        ensures mask { result ≡ lane_mask (store_size self) place }
+    /// The lanes of its word that a store at byte address `address` writes: bit i for byte i.
+    pub fn lanes(self, address: u32) -> u8
+        ensures mask { result ≡ lane_mask (store_size self) address }
         ensures some { 0 < result }
         ensures within { result < 16 }
     {
         match self {
-            StoreKind::Sb => byte_lane(place),
-            StoreKind::Sh => half_lanes(place),
-            StoreKind::Sw => word_lanes(place),
+            StoreKind::Sb => byte_lane(address),
+            StoreKind::Sh => half_lanes(address),
+            StoreKind::Sw => word_lanes(address),
         }
     }
 }
 
 #[tactic(auto, unfolding(crate::specs::Accesses::loaded, crate::specs::Accesses::byte_of))]
-/// The value that a load at byte address `place` takes from the aligned word that holds it, little-endian.
-pub fn load_value(kind: LoadKind, place: u32, word: u32) -> u32
-    ensures { result ≡ loaded kind place (λ p. byte_of word (p % 4)) }
+/// The value that a load at byte address `address` takes from the aligned word that holds it, little-endian.
+pub fn loaded(kind: LoadKind, address: u32, word: u32) -> u32
+    ensures { result ≡ loaded kind address (λ p. byte_of word (p % 4)) }
 {
-    let byte = (word >> (8 * (place % 4))) % 256;
-    let half = (word >> (16 * (place / 2 % 2))) % 65_536;
+    let byte = (word >> (8 * (address % 4))) % 256;
+    let half = (word >> (16 * (address / 2 % 2))) % 65_536;
     match kind {
         LoadKind::Lb => signed_byte(byte),
         LoadKind::Lh => signed_half(half),
@@ -95,55 +95,55 @@ fn signed_half(half: u32) -> u32
 }
 
 #[tactic(auto, using(crate::proofs::Lanes::masks))]
-fn byte_lane(place: u32) -> u8
-    ensures mask { result ≡ lane_mask 1 place }
+fn byte_lane(address: u32) -> u8
+    ensures mask { result ≡ lane_mask 1 address }
     ensures some { 0 < result }
     ensures within { result < 16 }
 {
-    1 << (place % 4)
+    1 << (address % 4)
 }
 
 #[tactic(auto, using(crate::proofs::Lanes::masks))]
-fn half_lanes(place: u32) -> u8
-    ensures mask { result ≡ lane_mask 2 place }
+fn half_lanes(address: u32) -> u8
+    ensures mask { result ≡ lane_mask 2 address }
     ensures some { 0 < result }
     ensures within { result < 16 }
 {
-    if place / 2 % 2 == 0 { 0b0011 } else { 0b1100 }
+    if address / 2 % 2 == 0 { 0b0011 } else { 0b1100 }
 }
 
 #[tactic(auto, using(crate::proofs::Lanes::masks))]
-fn word_lanes(place: u32) -> u8
-    ensures mask { result ≡ lane_mask 4 place }
+fn word_lanes(address: u32) -> u8
+    ensures mask { result ≡ lane_mask 4 address }
     ensures some { 0 < result }
     ensures within { result < 16 }
 {
-    let _ = place;
+    let _ = address;
     0b1111
 }
 
 #[tactic(auto, using(crate::proofs::Lanes::stored_words))]
-fn stored_byte(place: u32, value: u32) -> u32
-    ensures { result ≡ store_word StoreKind.Sb place value }
+fn stored_byte(address: u32, value: u32) -> u32
+    ensures { result ≡ store_word StoreKind.Sb address value }
 {
-    value % 256 << (8 * (place % 4))
+    value % 256 << (8 * (address % 4))
 }
 
 #[tactic(auto, using(crate::proofs::Lanes::stored_words))]
-fn stored_half(place: u32, value: u32) -> u32
-    ensures { result ≡ store_word StoreKind.Sh place value }
+fn stored_half(address: u32, value: u32) -> u32
+    ensures { result ≡ store_word StoreKind.Sh address value }
 {
-    value % 65_536 << (16 * (place / 2 % 2))
+    value % 65_536 << (16 * (address / 2 % 2))
 }
 
 #[tactic(auto, using(crate::proofs::Lanes::stored_words))]
-/// The low bytes of `value` in the lanes of its word that a store at byte address `place` accesses, 0 in the others.
-pub fn store_word(kind: StoreKind, place: u32, value: u32) -> u32
-    ensures { result ≡ store_word kind place value }
+/// The low bytes of `value` in the lanes of its word that a store at byte address `address` accesses, 0 in the others.
+pub fn store_word(kind: StoreKind, address: u32, value: u32) -> u32
+    ensures { result ≡ store_word kind address value }
 {
     match kind {
-        StoreKind::Sb => stored_byte(place, value),
-        StoreKind::Sh => stored_half(place, value),
+        StoreKind::Sb => stored_byte(address, value),
+        StoreKind::Sh => stored_half(address, value),
         StoreKind::Sw => value,
     }
 }

@@ -6,7 +6,7 @@ ghost use Rattle.rv_table.specs.Actions.{access_of, asked, called, is_clocked, i
 use crate::{Computed, CounterKind, LoadKind, Op, Operation, StoreKind, compute, operation_of};
 
 /// What an instruction asks for, between decoding and doing: the instruction set performs it, EX puts it into a latch
-/// and MEM takes it out again. `place` is a byte address.
+/// and MEM takes it out again. `address` is a byte address.
 #[derive(Clone, Copy, Debug, PartialEq, Eq)]
 pub enum Action {
     /// No instruction.
@@ -19,11 +19,11 @@ pub enum Action {
     Loads {
         kind: LoadKind,
         rd: u8,
-        place: u32,
+        address: u32,
     },
     Stores {
         kind: StoreKind,
-        place: u32,
+        address: u32,
         value: u32,
     },
     /// Puts the low byte.
@@ -37,7 +37,7 @@ pub enum Action {
 /// An access to memory: its byte address, how many bytes (1, 2 or 4), and whether it writes them.
 #[derive(Clone, Copy, Debug, PartialEq, Eq)]
 pub struct Access {
-    pub place: u32,
+    pub address: u32,
     pub size: u32,
     pub writes: bool,
 }
@@ -49,13 +49,13 @@ impl Action {
         ensures { result ≡ access_of self.now }
     {
         match *self {
-            Action::Loads { kind, place, .. } => Some(Access {
-                place,
+            Action::Loads { kind, address, .. } => Some(Access {
+                address,
                 size: kind.size(),
                 writes: false,
             }),
-            Action::Stores { kind, place, .. } => Some(Access {
-                place,
+            Action::Stores { kind, address, .. } => Some(Access {
+                address,
                 size: kind.size(),
                 writes: true,
             }),
@@ -118,24 +118,28 @@ fn misses_target(computed: &Computed) -> bool
 }
 
 /// A load, or trap 4 at an address that is no multiple of its size.
-fn loaded_from(kind: LoadKind, rd: u8, place: u32) -> Action
-    ensures action { result ≡ load_asked kind rd place }
+fn loaded_from(kind: LoadKind, rd: u8, address: u32) -> Action
+    ensures action { result ≡ load_asked kind rd address }
     ensures register { rd < 32 → written_register result < 32 }
 {
-    if place % kind.size() == 0 {
-        Action::Loads { kind, rd, place }
+    if address % kind.size() == 0 {
+        Action::Loads { kind, rd, address }
     } else {
         Action::Traps(4)
     }
 }
 
 /// A store, or trap 4 at an address that is no multiple of its size.
-fn stored_to(kind: StoreKind, place: u32, value: u32) -> Action
-    ensures action { result ≡ store_asked kind place value }
+fn stored_to(kind: StoreKind, address: u32, value: u32) -> Action
+    ensures action { result ≡ store_asked kind address value }
     ensures register { written_register result ≡ 0 }
 {
-    if place % kind.size() == 0 {
-        Action::Stores { kind, place, value }
+    if address % kind.size() == 0 {
+        Action::Stores {
+            kind,
+            address,
+            value,
+        }
     } else {
         Action::Traps(4)
     }

@@ -18,7 +18,7 @@ mod op;
 mod operation;
 mod spelling;
 
-pub use access::{load_value, store_word};
+pub use access::{loaded, store_word};
 pub use action::{Access, Action, asked, is_clocked, is_counter, next_address, with_counter};
 pub use arithmetic::{alu, holds};
 pub use decoding::decode;

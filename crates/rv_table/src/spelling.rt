@@ -1,8 +1,9 @@
 // The assembler's spelling of an operation.
 ghost use Rattle.std.specs.Prelude.{◌≡◌, ◌<◌, ◌∷◌, [], IfOk, codes, decimal, string_bytes};
 ghost use Rattle.std.specs.Fmt.{signed_decimal};
+ghost use Rattle.std.specs.List.{concat};
 ghost use Rattle.rv_table.specs.Operations.{operation_of};
-ghost use Rattle.rv_table.specs.Texts.{HasText, at_address, joined, mnemonic, names_address, register_name, text, three, two};
+ghost use Rattle.rv_table.specs.Texts.{HasText, at_address, mnemonic, names_address, register_name, text, three, two};
 
 use crate::{Form, Op, Operation, form_of, has_row, operation_of};
 use std::alloc::{AllocError, Global};
@@ -63,7 +64,7 @@ fn alone(alloc: Global, name: &str) -> Result<String, OutOfMemory>
 }
 
 fn counter(alloc: Global, name: &str, rd: &str) -> Result<String, OutOfMemory>
-    ensures { IfOk result (λ t. string_bytes t ≡ joined (name.now ∷ codes " " ∷ rd.now ∷ [])) }
+    ensures { IfOk result (λ t. string_bytes t ≡ concat (name.now ∷ codes " " ∷ rd.now ∷ [])) }
 {
     Ok(format!(in alloc; "{name} {rd}")?)
 }

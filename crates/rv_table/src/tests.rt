@@ -99,13 +99,13 @@ fn an_action_is_judged(rt: HostRuntime) {
         Action::Loads {
             kind: LoadKind::Lw,
             rd: 5,
-            place: 0x8_0000
+            address: 0x8_0000
         }
     );
     assert_eq!(rt;
         load.access(),
         Some(Access {
-            place: 0x8_0000,
+            address: 0x8_0000,
             size: 4,
             writes: false
         })
@@ -113,10 +113,7 @@ fn an_action_is_judged(rt: HostRuntime) {
     assert_eq!(rt; load.judged(false, false), Action::Traps(5));
     // a jump to address 2
     assert_eq!(rt; asked(&decode(0x0020_006F), 0, 0, 0), Action::Traps(2));
-    assert_eq!(rt;
-        load_value(LoadKind::Lh, 0x8_0002, 0x8001_7FFF),
-        0xFFFF_8001
-    );
+    assert_eq!(rt; loaded(LoadKind::Lh, 0x8_0002, 0x8001_7FFF), 0xFFFF_8001);
     assert_eq!(rt;
         store_word(StoreKind::Sb, 0x8_0003, 0x1234_5678),
         0x7800_0000

@@ -1,2 +1,3 @@
+pub mod FlipLaws
 pub mod Packed
 pub mod Youngest

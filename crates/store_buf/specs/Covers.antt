@@ -1,15 +1,12 @@
 -- What a load finds in the store buffer: each lane that it wants is looked for in the pending stores to its word, the
 -- youngest first.
-use Rattle.std.specs.Prelude.{ℕ, ◌==◌, Bool, not, cond, ◌&&◌, ◌||◌, List, [], ◌∷◌, Option, Some, None, is_some, is_none, unwrap_or, slice_index}
-use Rattle.std.specs.Int.{w32, to_le_bytes, from_le_bytes}
+use Rattle.std.specs.Prelude.{ℕ, ◌==◌, Bool, not, cond, ◌&&◌, ◌||◌, List, [], ◌∷◌, Option, Some, None, is_some, is_none, unwrap_or}
+use Rattle.std.specs.Int.{w32, from_le_bytes}
 use Rattle.std.specs.Option.{option_or}
-use Rattle.store_buf.specs.Entry.{Entry, has_lane}
+use Rattle.bit_field.specs.Lanes.{has_lane, lane_byte}
+use Rattle.store_buf.specs.Entry.{Entry}
 use Rattle.store_buf.specs.declared.cover.Cover.{Cover}
 use Rattle.store_buf.specs.declared.cover.Cover.TheVariants.{Full, Part, None as Uncovered}
-
--- a lane's byte of a word
-abbrev pub lane_byte : ℕ → ℕ → ℕ
-lane_byte value lane = slice_index (to_le_bytes w32 value) lane
 
 -- the byte that a store holds for a lane of the word at addr, if it writes that lane
 unfoldable pub held : Entry → ℕ → ℕ → Option ℕ

@@ -1,6 +1,5 @@
 -- What a slot of the store buffer holds: a store to one word that hasn't reached the cache.
-use Rattle.std.specs.Prelude.{ℕ, ◌==◌, Bool}
-use Rattle.std.specs.Int.{bit_at}
+use Rattle.std.specs.Prelude.{ℕ}
 
 pub record Entry : Type 0 where
   pub mask : ℕ  -- bit l says that the store writes byte lane l; a slot with no bit set is free
@@ -10,7 +9,3 @@ pub record Entry : Type 0 where
 -- a free slot, all of whose bits are 0
 abbrev pub no_entry : Entry
 no_entry = record { mask = 0; addr = 0; value = 0 }
-
--- whether a mask names a lane
-abbrev pub has_lane : ℕ → ℕ → Bool
-has_lane mask lane = bit_at mask lane == 1

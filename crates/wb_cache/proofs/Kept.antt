@@ -7,7 +7,8 @@ use Rattle.std.proofs.lemmas.List.Elements.{All-set, All-append, All-take, All-d
 use Rattle.bit_field.proofs.CacheShape.{tag_below}
 use Rattle.bit_field.specs.Shapes.{tag_bits, slots as slot_count}
 use Rattle.elf_load.specs.Image.{LoadedImage, IsImage, in_ram}
-use Rattle.wb_cache.specs.Access.{put, put_word, put_lane, touched, has_lane, lane_byte, read, written, found, on_hit}
+use Rattle.bit_field.specs.Lanes.{has_lane, lane_byte}
+use Rattle.wb_cache.specs.Access.{put, put_word, put_lane, touched, read, written, found, on_hit}
 use Rattle.wb_cache.specs.Contents.{Contents, IsContents, IsSized, slots, slot_of}
 use Rattle.wb_cache.specs.Lookup.{line_of, set_of, tag_of}
 use Rattle.wb_cache.specs.Refill.{filled, refilled, memory_refilled, line_bytes, place_of, put_line, way_for, written_back}

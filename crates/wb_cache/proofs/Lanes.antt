@@ -2,7 +2,8 @@
 use Rattle.std.proofs.Common.{◌≡◌, ℕ, zero, suc, ◌+◌, ◌*◌, ◌<◌, List, [], ◌∷◌, get_or, arith, ap, refl, ◌∙◌}
 use Rattle.std.specs.Prelude.{slice_index}
 use Rattle.std.proofs.lemmas.Nat.{le_bytes_4}
-use Rattle.wb_cache.specs.Access.{word_at, lane_byte}
+use Rattle.bit_field.specs.Lanes.{lane_byte}
+use Rattle.wb_cache.specs.Access.{word_at}
 use Rattle.wb_cache.specs.Contents.{Slot}
 
 four_below : (a b c d i : ℕ) → a < 256 → b < 256 → c < 256 → d < 256 → get_or (a ∷ b ∷ c ∷ d ∷ []) i 0 < 256

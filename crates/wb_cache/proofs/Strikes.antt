@@ -13,7 +13,7 @@ use Rattle.bit_field.proofs.Arrays.{laws_of_list, laws_of_number}
 use Rattle.bit_field.proofs.Flags.{laws_of_flags}
 use Rattle.wb_cache.specs.Bits.{bit_in, flip_in, IsCache, bit_of_tags, flip_tag}
 use Rattle.wb_cache.specs.Contents.{Contents, IsContents}
-use Rattle.wb_cache.specs.Laws.{data_laws}
+use Rattle.wb_cache.proofs.ArrayLaws.{data_laws}
 use Rattle.wb_cache.proofs.Lengths.{sized-same}
 
 -- tags of one width

@@ -5,7 +5,8 @@ use Rattle.std.specs.Prelude.{slice_index, ◌==◌, ◌&&◌}
 use Rattle.std.proofs.lemmas.Bool.{cases_eq, cases_lt}
 use Rattle.std.proofs.lemmas.Bool.Decides.{nat_tests}
 use Rattle.std.proofs.lemmas.List.{get_or-set_same, get_or-set_other}
-use Rattle.wb_cache.specs.Access.{put_lane, put_word, has_lane, lane_byte}
+use Rattle.bit_field.specs.Lanes.{has_lane, lane_byte}
+use Rattle.wb_cache.specs.Access.{put_lane, put_word}
 use Rattle.wb_cache.proofs.Lengths.{length-put_lane}
 
 same_by : (b : Bool) (bytes : List ℕ) (i v : ℕ) → i < length bytes → get_or (cond b (set bytes i v) bytes) i 0 ≡ cond b v (get_or bytes i 0)

@@ -4,7 +4,8 @@ use Rattle.std.specs.Prelude.{slice_index, ◌==◌, ◌&&◌, nat_lt}
 use Rattle.std.proofs.lemmas.Bool.{cases_lt}
 use Rattle.std.proofs.lemmas.Bool.Decides.{nat_tests}
 use Rattle.std.proofs.lemmas.List.{get_or-set_same, get_or-set_other}
-use Rattle.wb_cache.specs.Access.{put, put_word, touched, has_lane, lane_byte}
+use Rattle.bit_field.specs.Lanes.{has_lane, lane_byte}
+use Rattle.wb_cache.specs.Access.{put, put_word, touched}
 use Rattle.wb_cache.specs.Changes.{put_slot, written_slot}
 use Rattle.wb_cache.specs.Contents.{Contents, IsSized, slots, slot_at, slot_of}
 use Rattle.wb_cache.proofs.Sizes.{slot_below}

@@ -1,7 +1,8 @@
 -- Reading and writing a word of a line that the cache holds. A word of a line is 0 to 3.
-use Rattle.std.specs.Prelude.{ℕ, ◌+◌, ◌*◌, ◌/◌, ◌%◌, ◌==◌, Bool, true, cond, List, [], ◌∷◌, Option, Some, None, slice_index, slice_set}
-use Rattle.std.specs.Int.{w32, bit_at, to_le_bytes, from_le_bytes}
+use Rattle.std.specs.Prelude.{ℕ, ◌+◌, ◌*◌, ◌/◌, ◌%◌, true, cond, List, [], ◌∷◌, Option, Some, None, slice_set}
+use Rattle.std.specs.Int.{w32, from_le_bytes}
 use Rattle.std.specs.Option.{option_map}
+use Rattle.bit_field.specs.Lanes.{has_lane, lane_byte}
 use Rattle.wb_cache.specs.Contents.{Contents, Slot, slot_of, slots}
 use Rattle.wb_cache.specs.Lookup.{set_of, way_of}
 use Rattle.wb_cache.specs.Replacement.{used}
@@ -34,13 +35,6 @@ on_hit None change c = c
 -- the contents after a read of a line
 unfoldable pub read : ℕ → Contents → Contents
 read line c = on_hit (found c line) (λ way. touched (set_of c.shape line) way c) c
-
--- whether a mask names a lane of a word, and the byte of a lane
-abbrev pub has_lane : ℕ → ℕ → Bool
-has_lane mask lane = bit_at mask lane == 1
-
-abbrev pub lane_byte : ℕ → ℕ → ℕ
-lane_byte value lane = slice_index (to_le_bytes w32 value) lane
 
 -- the bytes with a lane of the word at place `place` written, if the mask names it
 abbrev pub put_lane : ℕ → ℕ → ℕ → ℕ → List ℕ → List ℕ

@@ -2,7 +2,7 @@
 use Rattle.std.specs.Prelude.{ℕ, ◌+◌, ◌*◌, ◌/◌, ◌%◌, ◌^◌, ◌==◌, ◌&&◌, true, false, not, cond, nat_lt, bit_xor}
 use Rattle.bit_field.specs.declared.shapes.Shape.{Shape}
 use Rattle.elf_load.specs.Image.{LoadedImage, in_ram}
-use Rattle.wb_cache.specs.Access.{has_lane, lane_byte}
+use Rattle.bit_field.specs.Lanes.{has_lane, lane_byte}
 use Rattle.wb_cache.specs.Contents.{Slot}
 use Rattle.wb_cache.specs.Lookup.{set_of, tag_of}
 

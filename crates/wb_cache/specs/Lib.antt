@@ -2,7 +2,6 @@ pub mod Access
 pub mod Bits
 pub mod Changes
 pub mod Contents
-pub mod Laws
 pub mod Lookup
 pub mod Refill
 pub mod Replacement

@@ -8,7 +8,9 @@ ghost use Rattle.bit_field.specs.Shapes.{IsShape};
 ghost use Rattle.wb_cache.specs.Access.{put_word, put_lane};
 
 use avf_base::OutOfMemory;
-use bit_field::{Shape, Struck, bit_at, bytes_fit, flip_at_u8, flip_at_u32, tag_bits};
+use bit_field::{
+    Shape, Struck, bit_at, bytes_fit, flip_at_u8, flip_at_u32, has_lane, lane_byte, tag_bits,
+};
 use std::alloc::Global;
 use std::marker::Model;
 
@@ -31,7 +33,6 @@ impl Model for LineData {
 impl Struck for LineData {
     ghost use Rattle.std.specs.Prelude.{length, All, ◌*◌, ◌^◌, ◌<◌};
     ghost use Rattle.wb_cache.specs.Bits as spec;
-    ghost use Rattle.wb_cache.specs.Laws as spec_laws;
 
     ghost IsFit = { All (λ b. b < 2 ^ 8) };
 
@@ -40,8 +41,6 @@ impl Struck for LineData {
     ghost bit_of = { spec.bit_of_data };
 
     ghost flipped = { spec.flip_data };
-
-    ghost laws = { spec_laws.data_laws };
 
     fn bits(&self) -> u32 {
         self.bytes.len() as u32 * 8
@@ -58,6 +57,8 @@ impl Struck for LineData {
     fn fits(&self) {
         bytes_fit(&self.bytes);
     }
+
+    fn laws(&self) {}
 }
 
 impl LineData {
@@ -120,8 +121,8 @@ impl LineData {
         requires lane { lane < 4 }
         ensures { self.new ≡ put_lane at mask value lane self.old }
     {
-        if bit_at(u32::from(mask), lane) {
-            self.bytes[(at + lane) as usize] = value.to_le_bytes()[lane as usize];
+        if has_lane(mask, lane) {
+            self.bytes[(at + lane) as usize] = lane_byte(value, lane);
         }
     }
 
@@ -155,7 +156,6 @@ impl Model for LineTags {
 
 impl Struck for LineTags {
     ghost use Rattle.wb_cache.specs.Tags as spec;
-    ghost use Rattle.wb_cache.specs.Laws as spec_laws;
 
     ghost IsFit = { spec.IsFit };
 
@@ -164,8 +164,6 @@ impl Struck for LineTags {
     ghost bit_of = { spec.bit_of };
 
     ghost flipped = { spec.flipped };
-
-    ghost laws = { spec_laws.tag_laws };
 
     fn bits(&self) -> u32 {
         self.tags.len() as u32 * self.width
@@ -186,6 +184,8 @@ impl Struck for LineTags {
     fn fits(&self) {
         let _width = self.width;
     }
+
+    fn laws(&self) {}
 }
 
 impl LineTags {
@@ -238,7 +238,6 @@ impl Model for LineFlags {
 impl Struck for LineFlags {
     ghost use Rattle.std.specs.Prelude.{length};
     ghost use Rattle.bit_field.specs.Arrays.{bit_of_flags, flip_flag};
-    ghost use Rattle.bit_field.proofs.Flags.{laws_of_flags};
 
     ghost IsFit = { λ _. Unit {0} };
 
@@ -247,8 +246,6 @@ impl Struck for LineFlags {
     ghost bit_of = { bit_of_flags };
 
     ghost flipped = { flip_flag };
-
-    ghost laws = { laws_of_flags };
 
     fn bits(&self) -> u32 {
         self.flags.len() as u32
@@ -264,6 +261,8 @@ impl Struck for LineFlags {
     }
 
     fn fits(&self) {}
+
+    fn laws(&self) {}
 }
 
 impl LineFlags {

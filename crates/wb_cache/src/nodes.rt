@@ -28,7 +28,6 @@ impl Model for ReplacementNodes {
 impl Struck for ReplacementNodes {
     ghost use Rattle.std.specs.Prelude.{length};
     ghost use Rattle.bit_field.specs.Arrays.{bit_of_flags, flip_flag};
-    ghost use Rattle.bit_field.proofs.Flags.{laws_of_flags};
 
     ghost IsFit = { λ _. Unit {0} };
 
@@ -37,8 +36,6 @@ impl Struck for ReplacementNodes {
     ghost bit_of = { bit_of_flags };
 
     ghost flipped = { flip_flag };
-
-    ghost laws = { laws_of_flags };
 
     fn bits(&self) -> u32 {
         self.nodes.len() as u32
@@ -54,6 +51,8 @@ impl Struck for ReplacementNodes {
     }
 
     fn fits(&self) {}
+
+    fn laws(&self) {}
 }
 
 impl ReplacementNodes {

@@ -9,8 +9,10 @@ use Rattle.rv_table.specs.declared.action.Action.{Action}
 use Rattle.rv_table.specs.declared.action.Action.TheVariants.{Nothing, Writes, Loads, Stores, Puts, Exits, Traps}
 use Rattle.rv_isa.specs.Instruction.{State as Arch, action_in, completed, first_clock, given, instruction}
 use Rattle.rv_isa.specs.Instruction.{later_clocks, memory_after, next_count, performed, put_reg, with_action}
-use Rattle.flush_view.specs.Avoids.{Avoids, AvoidsAll, masked, next_action, outside}
-use Rattle.flush_view.specs.Flush.{Item, completed_item, completed_path, is_reached}
+use Rattle.flush_view.specs.Avoids.{Avoids, AvoidsAll, masked, outside}
+use Rattle.rv_isa.specs.Accesses.{next_action}
+use Rattle.flush_view.specs.Flush.{completed_path}
+use Rattle.cyc_machine.specs.InFlight.{Item, completed_item, is_reached}
 use Rattle.flush_view.proofs.Flush.Masked.{given-masked, memory_after-masked}
 
 -- ---- an instruction that avoids X

@@ -11,10 +11,10 @@ use Rattle.pipe_latch.specs.LatchedActions.{action_of}
 use Rattle.pipe_latch.specs.Latches.{ExecutedLatch}
 use Rattle.pipe_latch.proofs.Actions.{action-something}
 use Rattle.pipe_latch.proofs.Latches.{action_of-invalid, action_of-valid}
-use Rattle.cyc_machine.specs.Cycle.{action_in_m, retires, served_m}
+use Rattle.cyc_machine.specs.Cycle.{action_in_m, retires, served_m, done_in}
 use Rattle.cyc_machine.specs.State.{State}
-use Rattle.flush_view.specs.Flush.{Item, completed_count, completed_item, completed_path, entries_completed, flush, is_reached, latched, path}
-use Rattle.flush_view.specs.MemoryLaw.{done_in}
+use Rattle.flush_view.specs.Flush.{completed_count, completed_path, entries_completed, flush, latched, path}
+use Rattle.cyc_machine.specs.InFlight.{Item, completed_item, is_reached}
 
 one_more : (actions : List Action) (a : Action) → length (actions ++ a ∷ []) ≡ length actions + 1
 one_more actions a = length-append actions (a ∷ [])

@@ -10,14 +10,15 @@ use Rattle.rv_isa.specs.Instruction.{State as Arch, Log, end_of, instruction, lo
 use Rattle.pipe_latch.specs.Forwarding.{operand, settled}
 use Rattle.pipe_latch.specs.Latches.{op_of_latch}
 use Rattle.inst_buf.specs.Buffer.{entries}
-use Rattle.cyc_machine.specs.Cycle.{action_in_m, cycle, end_in, fate}
+use Rattle.cyc_machine.specs.Cycle.{action_in_m, cycle, end_in, fate, done_in}
 use Rattle.cyc_machine.specs.Pipeline.{register}
 use Rattle.cyc_machine.specs.State.{State}
-use Rattle.flush_view.specs.Avoids.{Avoids, AvoidsAll, AvoidsFlush, masked, next_action, outside}
+use Rattle.flush_view.specs.Avoids.{Avoids, AvoidsAll, AvoidsFlush, masked, outside}
+use Rattle.rv_isa.specs.Accesses.{next_action}
 use Rattle.flush_view.specs.Coherence.{IsCoherent}
-use Rattle.flush_view.specs.Flush.{Item, completed_item, completed_path, entries_completed, fed, flush, is_reached, item_of_entry, latched, path, path_of}
+use Rattle.flush_view.specs.Flush.{completed_path, entries_completed, fed, flush, item_of_entry, latched, path, path_of}
+use Rattle.cyc_machine.specs.InFlight.{Item, completed_item, is_reached}
 use Rattle.flush_view.specs.FlushLaw.{FlushLaw, moved_flush, moves_on, remaining}
-use Rattle.flush_view.specs.MemoryLaw.{done_in}
 use Rattle.flush_view.specs.Views.{view}
 use Rattle.flush_view.proofs.Flush.Avoiding.{before-logged, before-path, instruction-log, before-item, outside-completed, outside-path, outside-performed}
 use Rattle.flush_view.proofs.Flush.Counts.{flush-counts, flush-leaves}
@@ -27,7 +28,7 @@ use Rattle.flush_view.proofs.Flush.PipeLaw.{added_to, flush_more}
 use Rattle.flush_view.proofs.Flush.MachinePipe.{piped}
 use Rattle.flush_view.proofs.Flush.Pipes.{flush_pipe, latched_pipe}
 use Rattle.wb_cache.proofs.Kept.{AreBytes}
-use Rattle.flush_view.proofs.Steady.Lasting.{IsSteady}
+use Rattle.cyc_machine.specs.Sizes.{IsSteady}
 
 -- ---- a path over masked memory whose log avoids X
 

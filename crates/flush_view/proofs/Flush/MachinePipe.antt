@@ -26,7 +26,7 @@ use Rattle.cyc_machine.specs.Pipeline.{issued_after, npc_after, decoded, decoded
 use Rattle.cyc_machine.specs.Pipeline.{executed_after, fetched, filled, register, taken, written_registers}
 use Rattle.cyc_machine.specs.State.{State}
 use Rattle.flush_view.proofs.Flush.Pipes.{Pipe, action_next, decoded_next, next_pipe, taken_by}
-use Rattle.flush_view.proofs.Steady.Lasting.{IsSteady}
+use Rattle.cyc_machine.specs.Sizes.{IsSteady}
 
 abbrev pub piped : State → Pipe
 piped s =

@@ -10,13 +10,13 @@ use Rattle.rv_table.specs.declared.action.Action.TheVariants.{Nothing, Writes, L
 use Rattle.rv_table.specs.declared.operation.StoreKind.{StoreKind}
 use Rattle.rv_table.proofs.Loads.{loaded-same, same_word}
 use Rattle.rv_isa.specs.Instruction.{State as Arch, Log, end_of, given, logged, memory_after}
-use Rattle.cyc_machine.specs.Cycle.{action_in_m, cycle, end_in, fate, served_m}
+use Rattle.cyc_machine.specs.Cycle.{action_in_m, cycle, end_in, fate, served_m, done_in}
 use Rattle.cyc_machine.specs.Pipeline.{fate_of}
 use Rattle.cyc_machine.specs.State.{State}
 use Rattle.flush_view.specs.Avoids.{Avoids, masked}
 use Rattle.flush_view.specs.Coherence.{IsCoherent}
 use Rattle.flush_view.specs.Flush.{fed, flush}
-use Rattle.flush_view.specs.MemoryLaw.{MemoryLaw, done_in}
+use Rattle.flush_view.specs.MemoryLaw.{MemoryLaw}
 use Rattle.flush_view.specs.Views.{view}
 use Rattle.flush_view.proofs.Memory.MemoryLaw.{memory-law}
 use Rattle.flush_view.proofs.Memory.Overlay.{one_word}
@@ -24,7 +24,7 @@ use Rattle.flush_view.proofs.Flush.PipeLaw.{added_to, fed_pipe, flush_more, leav
 use Rattle.flush_view.proofs.Flush.MachinePipe.{piped, piped-next}
 use Rattle.flush_view.proofs.Flush.Pipes.{Pipe, flush_pipe, next_pipe}
 use Rattle.wb_cache.proofs.Kept.{AreBytes}
-use Rattle.flush_view.proofs.Steady.Lasting.{IsSteady}
+use Rattle.cyc_machine.specs.Sizes.{IsSteady}
 
 -- ---- an action that avoids X sees and makes the same outside X
 

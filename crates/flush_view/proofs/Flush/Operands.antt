@@ -16,7 +16,7 @@ use Rattle.pipe_latch.specs.Latches.{ResultLatch, no_result}
 use Rattle.pipe_latch.specs.declared.forward.Forwarded.{Forwarded}
 use Rattle.pipe_latch.specs.declared.forward.Forwarded.TheVariants.{Value}
 use Rattle.pipe_latch.proofs.Settled.{operand-waits_on, settled-operand, settled-stays}
-use Rattle.flush_view.specs.Flush.{operand_held}
+use Rattle.cyc_machine.specs.InFlight.{operand_held}
 
 -- what completing an action writes is what it forwards, or what its load gets
 pub written-by : (image : LoadedImage) (m : Action) (memory : ℕ → ℕ) → IsWrittenBy m (given image m memory)

@@ -7,7 +7,8 @@ use Rattle.rv_table.specs.Words.{decode}
 use Rattle.rv_table.specs.declared.op.Op.{Op}
 use Rattle.rv_isa.specs.Instruction.{State as Arch, completed, instruction, op_at, op_of_word, reg}
 use Rattle.cyc_machine.specs.Pipeline.{entry_of_word, fetched, op_of_entry}
-use Rattle.flush_view.specs.Flush.{Item, completed_count, completed_item, completed_path, is_reached, item_of_entry}
+use Rattle.flush_view.specs.Flush.{completed_count, completed_path, item_of_entry}
+use Rattle.cyc_machine.specs.InFlight.{Item, completed_item, is_reached}
 
 -- ---- one more item
 

@@ -18,7 +18,8 @@ use Rattle.inst_buf.specs.Entry.{Entry}
 use Rattle.cyc_machine.specs.declared.fate.Fate.{Fate}
 use Rattle.cyc_machine.specs.declared.fate.Fate.TheVariants.{Absent, Dropped, Stays, Goes}
 use Rattle.cyc_machine.specs.Pipeline.{counted, entries_after, fate_of, filled, goes_with, issued_after, npc_after, operand_b, stalled}
-use Rattle.flush_view.specs.Flush.{Item, clocks_now, completed_item, completed_path, item_of_entry, item_of_latch, path_of}
+use Rattle.flush_view.specs.Flush.{clocks_now, completed_path, item_of_entry, path_of}
+use Rattle.cyc_machine.specs.InFlight.{Item, completed_item, item_of_latch}
 use Rattle.flush_view.specs.FlushLaw.{remaining}
 use Rattle.flush_view.proofs.Flush.Operands.{clock-taken, clocks-left, held-stays, held-waits}
 use Rattle.flush_view.proofs.Flush.Path.{added}

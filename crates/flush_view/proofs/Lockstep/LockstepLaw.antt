@@ -20,7 +20,8 @@ use Rattle.cyc_machine.specs.Facts.{IsMachine}
 use Rattle.cyc_machine.specs.Memory.{cache_after, load_client, memory_after, move_of, port_after, result_after, served, store_client, stores_after, word_read}
 use Rattle.cyc_machine.specs.Pipeline.{decoded_after, entries_after, executed_after, fate_of, issued_after, lesson, npc_after, trained_by, written_registers}
 use Rattle.cyc_machine.specs.State.{State}
-use Rattle.flush_view.specs.Ignored.{DiffersInIgnored, LockstepLaw, SameLines, SameReport}
+use Rattle.flush_view.specs.Ignored.{DiffersInIgnored, LockstepLaw, SameLines}
+use Rattle.cyc_machine.specs.Reports.{SameReport}
 use Rattle.flush_view.specs.Ignored.{read_of_decoded, read_of_executed, read_of_fetched, read_of_pending, read_of_result}
 use Rattle.flush_view.proofs.Lockstep.NextLines.{lines-next, memory-next}
 use Rattle.flush_view.proofs.Lockstep.Latches.{action-read, decoded-cases, entries-read, same-by_d, valid-read}
@@ -28,8 +29,9 @@ use Rattle.flush_view.proofs.Lockstep.Lines.{event-lines, move-same, word_read-l
 use Rattle.flush_view.proofs.Lockstep.PortMoves.{event-same, masked_move, move-masked, port-same, stores-same, word_read-same}
 use Rattle.flush_view.proofs.Lockstep.NextLatches.{decoded-empty, decoded-same, executed-empty, executed-same, npc-empty, registers-same, tables-empty}
 use Rattle.flush_view.proofs.Lockstep.Stores.{load_client-same, masked_entries, masked_entry, pending-same, served-same, store_client-same}
-use Rattle.flush_view.proofs.Memory.Tells.{Tells, tells}
-use Rattle.flush_view.proofs.Steady.Lasting.{IsSteady, machine-steady, steady-next}
+use Rattle.cyc_machine.proofs.Tells.{Tells, tells}
+use Rattle.cyc_machine.proofs.Sizes.Lasting.{machine-steady, steady-next}
+use Rattle.cyc_machine.specs.Sizes.{IsSteady}
 
 module _ (s u : State) (same : DiffersInIgnored s u) where
   abbrev stores : State → List Entry

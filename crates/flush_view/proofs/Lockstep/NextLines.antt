@@ -5,8 +5,8 @@ use Rattle.std.proofs.Math.Path.{fun_ext}
 use Rattle.std.proofs.lemmas.List.{ext_get_or}
 use Rattle.bit_field.specs.declared.shapes.Shape.{Shape}
 use Rattle.elf_load.specs.Image.{LoadedImage, IsImage, in_ram, ram_byte}
-use Rattle.store_buf.specs.Entry.{Entry, has_lane}
-use Rattle.store_buf.specs.Covers.{lane_byte}
+use Rattle.bit_field.specs.Lanes.{has_lane, lane_byte}
+use Rattle.store_buf.specs.Entry.{Entry}
 use Rattle.wb_cache.specs.Access.{put}
 use Rattle.wb_cache.specs.Changes.{filled_slot, put_slot, slot_written_back, written_slot}
 use Rattle.wb_cache.specs.Contents.{Contents, IsSized, Slot, slots}
@@ -24,8 +24,9 @@ use Rattle.flush_view.proofs.Memory.Fill.{filled, written}
 use Rattle.flush_view.proofs.Lockstep.Lines.{found-valid, found-whole, full-read, read_slots, slots-same}
 use Rattle.flush_view.proofs.Lockstep.PortMoves.{masked_move}
 use Rattle.flush_view.proofs.Lockstep.Stores.{masked-lane, masked_entry}
-use Rattle.flush_view.proofs.Memory.MovedSlots.{moved, moved_ram, ram-moved, shape-moved, slots-moved}
-use Rattle.flush_view.proofs.Memory.Tells.{Tells}
+use Rattle.flush_view.proofs.Memory.MovedSlots.{moved, moved_ram, ram-moved, slots-moved}
+use Rattle.cyc_machine.proofs.ShapeKept.{shape-moved}
+use Rattle.cyc_machine.proofs.Tells.{Tells}
 use Rattle.flush_view.proofs.Memory.Ways.{Slots}
 
 -- ---- slots

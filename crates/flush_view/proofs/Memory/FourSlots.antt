@@ -2,7 +2,8 @@
 use Rattle.std.proofs.Common.{◌≡◌, ℕ, ◌%◌, Bool, true, false, List, [], ◌∷◌, length, refl, sym, ◌∙◌, ap, arith, cond}
 use Rattle.std.proofs.lemmas.Bool.Decides.{nat_tests}
 use Rattle.std.proofs.lemmas.Nat.Bits.{bit_at-zero}
-use Rattle.store_buf.specs.Entry.{Entry, has_lane}
+use Rattle.bit_field.specs.Lanes.{has_lane}
+use Rattle.store_buf.specs.Entry.{Entry}
 use Rattle.store_buf.specs.Pending.{is_pending, pending, slot_of}
 use Rattle.store_buf.proofs.Packed.{mask-free}
 use Rattle.flush_view.specs.Views.{over, overlaid}

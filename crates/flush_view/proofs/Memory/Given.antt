@@ -31,10 +31,10 @@ use Rattle.cyc_machine.specs.Memory.{asked_word, covered_value, load_client, loa
 use Rattle.cyc_machine.specs.State.{State}
 use Rattle.flush_view.specs.Views.{byte_in, cached, overlaid, view}
 use Rattle.flush_view.proofs.Memory.Loads.{covered-byte, uncovered-byte}
-use Rattle.flush_view.proofs.Memory.Tells.{Tells, tells}
+use Rattle.cyc_machine.proofs.Tells.{Tells, tells}
 use Rattle.flush_view.proofs.Memory.Overlay.{lane-byte}
 use Rattle.wb_cache.proofs.Kept.{AreBytes}
-use Rattle.flush_view.proofs.Steady.Lasting.{IsSteady}
+use Rattle.cyc_machine.specs.Sizes.{IsSteady}
 
 -- the bytes of the slots are below 256
 index_below : (xs : List ℕ) (i : ℕ) → All (λ b. b < 2 ^ 8) xs → slice_index xs i < 256

@@ -8,8 +8,9 @@ use Rattle.rv_table.specs.Accesses.{accesses, byte_of, lane_mask, load_size}
 use Rattle.rv_table.specs.declared.operation.LoadKind.{LoadKind}
 use Rattle.rv_table.proofs.Loads.{same_word}
 use Rattle.rv_table.proofs.Stores.{load_mask-bit}
-use Rattle.store_buf.specs.Covers.{all_found, byte_found, each_lane, found, held, is_found, is_missing, lane_byte, none_found, word_found}
-use Rattle.store_buf.specs.Entry.{Entry, has_lane}
+use Rattle.bit_field.specs.Lanes.{has_lane, lane_byte}
+use Rattle.store_buf.specs.Covers.{all_found, byte_found, each_lane, found, held, is_found, is_missing, none_found, word_found}
+use Rattle.store_buf.specs.Entry.{Entry}
 use Rattle.wb_cache.specs.Access.{word_at}
 use Rattle.wb_cache.proofs.Lanes.{lane-word_at}
 use Rattle.flush_view.specs.Views.{overlaid}

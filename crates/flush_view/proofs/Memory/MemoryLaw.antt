@@ -12,20 +12,21 @@ use Rattle.rv_table.specs.declared.operation.StoreKind.{StoreKind}
 use Rattle.store_buf.specs.Entry.{Entry}
 use Rattle.store_buf.specs.Pending.{pending}
 use Rattle.wb_cache.specs.Contents.{Contents, slots}
-use Rattle.cyc_machine.specs.Cycle.{action_in_m, cycle, cycled, move, served_m}
+use Rattle.cyc_machine.specs.Cycle.{action_in_m, cycle, cycled, move, served_m, done_in}
 use Rattle.cyc_machine.specs.Memory.{cache_after, kept_stores, load_client, memory_after, store_client, stores_after, word_read}
 use Rattle.cyc_machine.specs.State.{State}
 use Rattle.flush_view.specs.Coherence.{Coherent, IsCoherent}
-use Rattle.flush_view.specs.MemoryLaw.{MemoryLaw, done_in}
+use Rattle.flush_view.specs.MemoryLaw.{MemoryLaw}
 use Rattle.flush_view.specs.Views.{cached, overlaid, view}
-use Rattle.flush_view.proofs.Memory.PendingNext.{pending-after}
+use Rattle.cyc_machine.proofs.PendingNext.{pending-after}
 use Rattle.flush_view.proofs.Memory.SlotLaw.{appended-view, moved-coherent, moved-view}
-use Rattle.flush_view.proofs.Memory.MovedSlots.{moved, moved_ram, ram-moved, shape-moved, slots-moved}
-use Rattle.flush_view.proofs.Memory.Tells.{Tells, tells}
+use Rattle.flush_view.proofs.Memory.MovedSlots.{moved, moved_ram, ram-moved, slots-moved}
+use Rattle.cyc_machine.proofs.ShapeKept.{shape-moved}
+use Rattle.cyc_machine.proofs.Tells.{Tells, tells}
 use Rattle.flush_view.proofs.Memory.Given.{served-value}
 use Rattle.flush_view.proofs.Memory.Overlay.{one_word}
 use Rattle.wb_cache.proofs.Kept.{AreBytes}
-use Rattle.flush_view.proofs.Steady.Lasting.{IsSteady}
+use Rattle.cyc_machine.specs.Sizes.{IsSteady}
 use Rattle.flush_view.proofs.Memory.Ways.{Slots}
 
 -- a store outside RAM is dropped

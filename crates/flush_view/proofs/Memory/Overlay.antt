@@ -10,8 +10,9 @@ use Rattle.rv_table.specs.Accesses.{accesses, byte_of, lane_mask, store_size, st
 use Rattle.rv_table.specs.declared.operation.StoreKind.{StoreKind}
 use Rattle.rv_table.specs.declared.operation.StoreKind.TheVariants.{Sb, Sh, Sw}
 use Rattle.rv_table.proofs.Stores.{store_mask-bit, store_word-byte}
-use Rattle.store_buf.specs.Covers.{found, held, lane_byte}
-use Rattle.store_buf.specs.Entry.{Entry, has_lane}
+use Rattle.bit_field.specs.Lanes.{has_lane, lane_byte}
+use Rattle.store_buf.specs.Covers.{found, held}
+use Rattle.store_buf.specs.Entry.{Entry}
 use Rattle.cyc_machine.specs.Memory.{entry_of, without_stray}
 use Rattle.flush_view.specs.Views.{over, overlaid}
 

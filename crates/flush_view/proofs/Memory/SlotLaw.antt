@@ -23,7 +23,7 @@ use Rattle.flush_view.specs.Views.{cached, over, overlaid}
 use Rattle.flush_view.proofs.Memory.Drain.{drained, drained-cached, drained-coherent}
 use Rattle.flush_view.proofs.Memory.Fill.{filled-cached, filled-coherent}
 use Rattle.flush_view.proofs.Memory.MovedSlots.{moved, moved_ram}
-use Rattle.flush_view.proofs.Memory.Tells.{Tells, client-oldest}
+use Rattle.cyc_machine.proofs.Tells.{Tells, client-oldest}
 use Rattle.flush_view.proofs.Memory.Overlay.{over-entry, overlaid-push, overlaid-stray}
 
 -- a way for a line is one of the shape

@@ -27,7 +27,7 @@ use Rattle.cyc_machine.specs.Pipeline.{fate_of, fetched, goes_with, npc_after, o
 use Rattle.cyc_machine.specs.State.{State}
 use Rattle.flush_view.proofs.Flush.MachinePipe.{piped-next}
 use Rattle.flush_view.proofs.Flush.Pipes.{Pipe}
-use Rattle.flush_view.proofs.Steady.Lasting.{IsSteady}
+use Rattle.cyc_machine.specs.Sizes.{IsSteady}
 
 -- ---- over plain variables
 

@@ -15,7 +15,8 @@ use Rattle.cyc_machine.specs.declared.port.Move.TheVariants.{Rests, Reads, Drain
 use Rattle.cyc_machine.specs.Memory.{cache_after, continues, drained_by, filled_by, move_of, owned_word, port_after, read_by, starts}
 use Rattle.cyc_machine.specs.PortState.{PortState}
 use Rattle.flush_view.proofs.Memory.Fill.{arrived-way, filled}
-use Rattle.flush_view.proofs.Memory.MovedSlots.{shape-moved, slots-moved}
+use Rattle.flush_view.proofs.Memory.MovedSlots.{slots-moved}
+use Rattle.cyc_machine.proofs.ShapeKept.{shape-moved}
 use Rattle.flush_view.proofs.Memory.Ways.{Slots}
 
 -- the word of the client that is served first

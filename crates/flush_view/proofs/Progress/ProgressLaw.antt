@@ -11,7 +11,8 @@ use Rattle.cyc_machine.specs.Run.{state_after}
 use Rattle.cyc_machine.specs.State.{State}
 use Rattle.flush_view.specs.Progress.{LeavesWithin}
 use Rattle.flush_view.proofs.Progress.Phases.{dropped_next, empty-end, fetched-pc, fetched_next, goes_next, stays_next, taken_next}
-use Rattle.flush_view.proofs.Steady.Lasting.{IsSteady, steady-next}
+use Rattle.cyc_machine.proofs.Sizes.Lasting.{steady-next}
+use Rattle.cyc_machine.specs.Sizes.{IsSteady}
 use Rattle.flush_view.proofs.Progress.Waiting.{m-stays, measure-below, measure-less, measure_of, no-end}
 
 less_below : (a b n : ℕ) → a < b → b < suc n → a < n

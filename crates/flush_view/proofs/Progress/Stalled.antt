@@ -10,7 +10,8 @@ use Rattle.rv_table.specs.declared.action.Action.TheVariants.{Nothing, Writes, L
 use Rattle.rv_table.specs.declared.operation.LoadKind.{LoadKind}
 use Rattle.rv_table.specs.declared.operation.StoreKind.{StoreKind}
 use Rattle.store_buf.specs.Covers.{all_found, covered, found as found_in, none_found, word_found}
-use Rattle.store_buf.specs.Entry.{Entry, has_lane}
+use Rattle.bit_field.specs.Lanes.{has_lane}
+use Rattle.store_buf.specs.Entry.{Entry}
 use Rattle.store_buf.specs.Pending.{younger}
 use Rattle.store_buf.specs.declared.cover.Cover.{Cover}
 use Rattle.store_buf.specs.declared.cover.Cover.TheVariants.{Full, Part, None as Uncovered}

@@ -18,11 +18,11 @@ use Rattle.cyc_machine.specs.Memory.{cache_after, kept_stores, load_client, port
 use Rattle.cyc_machine.specs.Pipeline.{executed_after, fate_of, goes_with, operand_b}
 use Rattle.cyc_machine.specs.PortState.{PortState}
 use Rattle.cyc_machine.specs.State.{State}
-use Rattle.flush_view.proofs.Memory.PendingNext.{pending-after}
-use Rattle.flush_view.proofs.Memory.Tells.{Tells, tells}
+use Rattle.cyc_machine.proofs.PendingNext.{pending-after}
+use Rattle.cyc_machine.proofs.Tells.{Tells, tells}
 use Rattle.flush_view.proofs.Progress.PortWait.{IsPassive, Timed, bounded, falls, timed, wait-below, wait_of}
 use Rattle.flush_view.proofs.Progress.Stalled.{IsStuck, kept-less, read-goes, stuck}
-use Rattle.flush_view.proofs.Steady.Lasting.{IsSteady}
+use Rattle.cyc_machine.specs.Sizes.{IsSteady}
 
 less_as : (a b c : ℕ) → a ≡ b → b < c → a < c
 less_as a b c e h = omega arith

@@ -18,9 +18,9 @@ use Rattle.cyc_machine.specs.Memory.{port_after, read_by, served, starts, store_
 use Rattle.cyc_machine.specs.PortState.{PortState}
 use Rattle.cyc_machine.specs.Run.{state_after, state_at}
 use Rattle.cyc_machine.specs.State.{State, reset}
-use Rattle.flush_view.specs.RunFacts.{WorksForMiss}
+use Rattle.cyc_machine.specs.Busy.{WorksForMiss}
 use Rattle.flush_view.proofs.Run.Clients.{load-stays, m-stays, not-served, store-stays}
-use Rattle.flush_view.proofs.Memory.PendingNext.{pending-after}
+use Rattle.cyc_machine.proofs.PendingNext.{pending-after}
 
 -- ---- what a miss tells
 

@@ -11,7 +11,8 @@ use Rattle.rv_table.specs.declared.action.Action.TheVariants.{Nothing, Writes, L
 use Rattle.rv_table.specs.declared.operation.LoadKind.{LoadKind}
 use Rattle.pipe_latch.specs.Latches.{DecodedLatch, ExecutedLatch, ResultLatch}
 use Rattle.store_buf.specs.Covers.{all_found, covered, each_lane, found as found_store, held, is_found, is_missing, none_found, word_found}
-use Rattle.store_buf.specs.Entry.{Entry, has_lane}
+use Rattle.bit_field.specs.Lanes.{has_lane}
+use Rattle.store_buf.specs.Entry.{Entry}
 use Rattle.store_buf.specs.declared.cover.Cover.{Cover}
 use Rattle.store_buf.specs.declared.cover.Cover.TheVariants.{Full, Part, None as Uncovered}
 use Rattle.cyc_machine.specs.Memory.{appended, asked_word, covered_value, load_client, load_value}

@@ -18,8 +18,8 @@ use Rattle.pipe_latch.specs.declared.forward.Forwarded.TheVariants.{Value}
 use Rattle.cyc_machine.specs.declared.fate.Fate.{Fate}
 use Rattle.cyc_machine.specs.declared.fate.Fate.TheVariants.{Absent, Dropped, Stays, Goes}
 use Rattle.cyc_machine.specs.Pipeline.{counted, issued_after, npc_after, operand_b}
-use Rattle.flush_view.specs.Avoids.{next_action}
-use Rattle.flush_view.specs.Flush.{completed_item, item_of_latch}
+use Rattle.rv_isa.specs.Accesses.{next_action}
+use Rattle.cyc_machine.specs.InFlight.{completed_item, item_of_latch}
 use Rattle.flush_view.proofs.Flush.Operands.{clock-taken}
 use Rattle.flush_view.proofs.Flush.Path.{completed_op}
 use Rattle.flush_view.proofs.Flush.PipeLaw.{base, fate-goes, fate_pipe, fed_pipe, goes-completed, not_both}

@@ -1,5 +1,5 @@
 -- The facts of each state of a run from reset: it follows the instruction set's run.
-use Rattle.std.proofs.Common.{◌≡◌, inl, ℕ, zero, suc, ◌+◌, List, [], ◌++◌, arith, refl, ap, sym, subst}
+use Rattle.std.proofs.Common.{◌≡◌, inl, ℕ, zero, suc, List, [], ◌++◌, arith, refl, ap, sym, subst}
 use Rattle.std.specs.Prelude.{None, if◌then◌else◌}
 use Rattle.std.proofs.Math.Path.{fun_ext}
 use Rattle.std.proofs.lemmas.List.Elements.{All-nil}
@@ -8,18 +8,18 @@ use Rattle.bit_field.specs.declared.shapes.Shape.{Shape}
 use Rattle.elf_load.specs.Image.{LoadedImage, IsImage, ram_byte}
 use Rattle.rv_table.specs.declared.action.Action.TheVariants.{Nothing}
 use Rattle.rv_isa.specs.Instruction.{State as Arch, Log, logged}
-use Rattle.rv_isa.specs.Runs.{after, reset as started}
+use Rattle.rv_isa.specs.Runs.{after, reset as started, trace_at}
 use Rattle.rv_isa.proofs.RunSteps.{after-next}
 use Rattle.pipe_latch.proofs.Latches.{action_of-no_executed}
 use Rattle.inst_buf.specs.Buffer.{entries, packed}
-use Rattle.cyc_machine.specs.Cycle.{cycle, cycled, end_in, fate, served_m}
+use Rattle.cyc_machine.specs.Cycle.{cycle, cycled, end_in, fate, served_m, done_in}
 use Rattle.cyc_machine.specs.Pipeline.{fetched, register}
 use Rattle.cyc_machine.specs.Run.{IsRunning, clocks_below, issues_below, state_after, state_at}
 use Rattle.cyc_machine.specs.State.{State, reset}
 use Rattle.flush_view.specs.Coherence.{IsCoherent}
 use Rattle.flush_view.specs.Flush.{fed}
-use Rattle.flush_view.specs.MemoryLaw.{MemoryLaw, done_in}
-use Rattle.flush_view.specs.Positions.{done_below, left_execute, left_memory, trace_at}
+use Rattle.flush_view.specs.MemoryLaw.{MemoryLaw}
+use Rattle.flush_view.specs.Positions.{done_below, left_execute, left_memory}
 use Rattle.flush_view.specs.RunFacts.{no_line}
 use Rattle.flush_view.specs.Views.{view}
 use Rattle.flush_view.proofs.Run.RunCounts.{clocks-next, image-kept, left-next, memory-next}
@@ -29,7 +29,8 @@ use Rattle.flush_view.proofs.Flush.MachinePipe.{piped, piped-next, waiting-after
 use Rattle.flush_view.proofs.Flush.Pipes.{Pipe}
 use Rattle.flush_view.proofs.Run.Reset.{coherent-reset, registers-reset, view-reset}
 use Rattle.flush_view.proofs.Run.Sound.{Sound, empty-sound, sound-next}
-use Rattle.flush_view.proofs.Steady.Lasting.{HoldsBytes, IsSteady, bytes-next, bytes-reset, steady-next, steady-reset}
+use Rattle.cyc_machine.proofs.Sizes.Lasting.{steady-next, bytes-next, steady-reset, bytes-reset}
+use Rattle.cyc_machine.specs.Sizes.{IsSteady, HoldsBytes}
 
 -- ---- what every cycle keeps, the end of the run or not
 
@@ -52,7 +53,7 @@ kept-next s k =
     let law : MemoryLaw s (cycle s) = memory-law s k.steady k.bytes.cache in
     record {
       steady = steady-next s k.steady;
-      bytes = bytes-next s k.steady k.bytes;
+      bytes = bytes-next s k.bytes;
       sound = sound-after s k.steady k.sound;
       in_order = order-after s;
       coherent = law.coherent no_line k.coherent;

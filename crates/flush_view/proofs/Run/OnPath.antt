@@ -12,7 +12,8 @@ use Rattle.pipe_latch.specs.Latches.{op_of_latch}
 use Rattle.cyc_machine.specs.Cycle.{action_in_m}
 use Rattle.cyc_machine.specs.Pipeline.{fetched}
 use Rattle.cyc_machine.specs.State.{State}
-use Rattle.flush_view.specs.Flush.{Item, completed_item, completed_path, flush, is_reached, item_of_entry, item_of_latch, latched, path}
+use Rattle.flush_view.specs.Flush.{completed_path, flush, item_of_entry, latched, path}
+use Rattle.cyc_machine.specs.InFlight.{Item, completed_item, is_reached, item_of_latch}
 use Rattle.flush_view.specs.Positions.{on_path}
 use Rattle.flush_view.specs.RunFacts.{HoldsNext}
 use Rattle.flush_view.specs.Views.{view}

@@ -1,5 +1,5 @@
 -- What the cycles of a run from reset count: instructions that left EX, instructions that are done, clock values and bytes.
-use Rattle.std.proofs.Common.{◌≡◌, ℕ, zero, suc, ◌+◌, ◌-◌, Bool, true, false, List}
+use Rattle.std.proofs.Common.{◌≡◌, ℕ, zero, suc, ◌+◌, Bool, true, false, List}
 use Rattle.std.proofs.Common.{[], ◌∷◌, ◌++◌, length, arith, refl, ap, sym, ◌∙◌, append_assoc, length-append}
 use Rattle.std.specs.Prelude.{Option, ◌&&◌, if◌then◌else◌}
 use Rattle.std.proofs.lemmas.Bool.Decides.{nat_tests}
@@ -16,14 +16,13 @@ use Rattle.pipe_latch.proofs.Latches.{latch_of-valid}
 use Rattle.store_buf.specs.Entry.{Entry}
 use Rattle.cyc_machine.specs.declared.fate.Fate.{Fate}
 use Rattle.cyc_machine.specs.declared.fate.Fate.TheVariants.{Absent, Dropped, Stays, Goes}
-use Rattle.cyc_machine.specs.Cycle.{action_in_m, cycled, fate, served_m}
+use Rattle.cyc_machine.specs.Cycle.{action_in_m, cycled, fate, served_m, done_in}
 use Rattle.cyc_machine.specs.Memory.{served}
 use Rattle.cyc_machine.specs.Pipeline.{counted, executed_after}
 use Rattle.cyc_machine.specs.Run.{clocks_below, cycle_if, goes, issues_below, output_below, retired_below, state_after, state_at, with_one}
 use Rattle.cyc_machine.specs.State.{State, reset}
 use Rattle.rv_table.specs.Actions.{action, is_clocked}
 use Rattle.flush_view.specs.Flush.{clocks_now, fed}
-use Rattle.flush_view.specs.MemoryLaw.{done_in}
 use Rattle.flush_view.specs.Positions.{done_below, left_execute, left_memory}
 use Rattle.flush_view.proofs.Run.Followed.{count_after}
 use Rattle.flush_view.proofs.Flush.PipeLaw.{fate-goes}

@@ -13,10 +13,13 @@ use Rattle.cyc_machine.specs.Cycle.{action_in_m}
 use Rattle.cyc_machine.specs.Pipeline.{register}
 use Rattle.cyc_machine.specs.Run.{IsRunning, clocks_below, state_at}
 use Rattle.cyc_machine.specs.State.{State}
-use Rattle.flush_view.specs.Avoids.{next_action}
-use Rattle.flush_view.specs.Flush.{Item, item_of_entry, item_of_latch, latched}
-use Rattle.flush_view.specs.Positions.{done_below, is_latch_on_path, left_execute, left_memory, on_path, trace_at}
-use Rattle.flush_view.specs.RunFacts.{HoldsNext, RunFacts, WorksForMiss}
+use Rattle.rv_isa.specs.Accesses.{next_action}
+use Rattle.flush_view.specs.Flush.{item_of_entry, latched}
+use Rattle.flush_view.specs.Positions.{done_below, is_latch_on_path, left_execute, left_memory, on_path}
+use Rattle.rv_isa.specs.Runs.{trace_at}
+use Rattle.flush_view.specs.RunFacts.{HoldsNext, RunFacts}
+use Rattle.cyc_machine.specs.InFlight.{Item, item_of_latch}
+use Rattle.cyc_machine.specs.Busy.{WorksForMiss}
 use Rattle.flush_view.specs.Views.{view}
 use Rattle.flush_view.proofs.Run.BusyPort.{busy-at}
 use Rattle.flush_view.proofs.Run.FromReset.{Kept, followed-at, kept-at, steps-at}

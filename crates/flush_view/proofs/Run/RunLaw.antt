@@ -19,7 +19,8 @@ use Rattle.cyc_machine.specs.Memory.{served}
 use Rattle.cyc_machine.specs.Run.{IsRunning, clocks_below, output_below, retired_below, state_after, state_at, with_one}
 use Rattle.cyc_machine.specs.State.{State}
 use Rattle.flush_view.specs.Flush.{fed}
-use Rattle.flush_view.specs.Positions.{done_below, left_execute, left_memory, trace_at}
+use Rattle.flush_view.specs.Positions.{done_below, left_execute, left_memory}
+use Rattle.rv_isa.specs.Runs.{trace_at}
 use Rattle.flush_view.specs.Progress.{LeavesWithin}
 use Rattle.flush_view.specs.RunLaw.{EndsAfter, RunLaw}
 use Rattle.flush_view.specs.Views.{view}

@@ -17,7 +17,7 @@ use Rattle.inst_buf.specs.Entry.{Entry}
 use Rattle.cyc_machine.specs.declared.fate.Fate.{Fate}
 use Rattle.cyc_machine.specs.declared.fate.Fate.TheVariants.{Absent, Dropped, Stays, Goes}
 use Rattle.cyc_machine.specs.Pipeline.{entries_after, fetched, filled, op_of_entry}
-use Rattle.flush_view.specs.Flush.{operand_held}
+use Rattle.cyc_machine.specs.InFlight.{operand_held}
 use Rattle.flush_view.proofs.Flush.Operands.{written-by}
 use Rattle.flush_view.proofs.Flush.Path.{fetched-op, fetched-pc}
 use Rattle.flush_view.proofs.Flush.Pipes.{Pipe, action_next, decoded_by, decoded_next, next_pipe, taken_by}

@@ -7,8 +7,8 @@ pub returns-in-Loads : goal.returns-in-Loads
 returns-in-Loads c =
     let image = c.args.self.now.image in
     let memory = ram_byte image c.args.self.now.memory in
-    let seen = ap (λ arch. word_in_ram arch.image (c.in-Loads.place / 4)) c.self.view_is in
-    let there : word_in_ram image (c.in-Loads.place / 4) ≡ true = sym seen ∙ sym c.word_in_ram.ensures ∙ c.if-word_in_ram.true in
+    let seen = ap (λ arch. word_in_ram arch.image (c.in-Loads.address / 4)) c.self.view_is in
+    let there : word_in_ram image (c.in-Loads.address / 4) ≡ true = sym seen ∙ sym c.word_in_ram.ensures ∙ c.if-word_in_ram.true in
     rw c.in-Loads.is
-    (c.load_value.ensures
-    ∙ given_load image c.in-Loads.kind c.in-Loads.rd c.in-Loads.place c.word.result memory there c.word.ensures.word c.word.ensures.bytes)
+    (c.loaded.ensures
+    ∙ given_load image c.in-Loads.kind c.in-Loads.rd c.in-Loads.address c.word.result memory there c.word.ensures.word c.word.ensures.bytes)

@@ -8,7 +8,7 @@ use Rattle.wb_cache.specs.Access.{found}
 use Rattle.wb_cache.specs.Contents.{Contents}
 use Rattle.wb_cache.specs.Refill.{way_for}
 use Rattle.cyc_machine.specs.declared.port.Move.{Move}
-use Rattle.cyc_machine.specs.declared.port.Move.TheVariants.{Reads, Drains, Waits, Fills}
+use Rattle.cyc_machine.specs.declared.port.Move.TheVariants.{Reads, Drains, Misses, Waits, Fills}
 use Rattle.cyc_machine.specs.Memory.{continues, drained_by, filled_by, move_of, owned_word, read_by, starts, store_client}
 use Rattle.cyc_machine.specs.PortState.{PortState}
 
@@ -16,16 +16,17 @@ use Rattle.cyc_machine.specs.PortState.{PortState}
 abbrev pub Tells : Contents → Option ℕ → Option Entry → Move → Type 0
 Tells c load store (Reads word way) = (load ≡ Some word) × (found c (word / 4) ≡ Some way)
 Tells c load store (Drains e way) = (store ≡ Some e) × (found c (e.addr / 4) ≡ Some way)
+Tells c load store (Misses line way count owner) = (found c line ≡ None) × (way ≡ way_for c line)
 Tells c load store (Fills line way) = (found c line ≡ None) × (way ≡ way_for c line)
 Tells c load store _ = ⊤
 
 reads : (c : Contents) (word : ℕ) (store : Option Entry) (o : Option ℕ) → found c (word / 4) ≡ o → Tells c (Some word) store (read_by o c word)
 reads c word store (Some way) h = (refl, h)
-reads c word store None h = tt
+reads c word store None h = (h, refl)
 
 drains : (c : Contents) (e : Entry) (o : Option ℕ) → found c (e.addr / 4) ≡ o → Tells c None (Some e) (drained_by o c e)
 drains c e (Some way) h = (refl, h)
-drains c e None h = tt
+drains c e None h = (h, refl)
 
 start : (c : Contents) (load : Option ℕ) (store : Option Entry) → Tells c load store (starts c load store)
 start c (Some word) store = reads c word store (found c (word / 4)) refl

@@ -1,7 +1,7 @@
--- What a cycle keeps of every machine's state, and so what the laws of a cycle ask for.
+-- The sizes that last: a cycle keeps them.
 --   CacheKept: the lengths of the cache's lists and of main memory, and bytes in both.
 --   Widths: register numbers and counts within their widths, and no more than four pending stores.
---   Lasting: both together, for the state after a cycle.
+--   Lasting: all of them, at reset and after a cycle.
 pub mod CacheKept
 pub mod Widths
 pub mod Lasting

@@ -1,0 +1,5 @@
+use Rattle.store_buf.proofs.FlipLaws.{laws}
+use Rattle.store_buf.proofs.buffer.StoreBufStruck.laws.Goals as goal
+
+pub returns : goal.returns
+returns c = laws
