@@ -2,9 +2,9 @@
 use Rattle.std.proofs.Common.{◌≡◌, ℕ, ◌^◌, ◌<◌, List, length}
 use Rattle.std.proofs.lemmas.List.Elements.{All-from_get_or}
 use Rattle.elf_load.specs.Image.{LoadedImage, IsImage}
-use Rattle.wb_cache.specs.Contents.{Contents, IsSized}
+use Rattle.wb_cache.specs.Contents.{Contents, IsSized, AreBytes}
 use Rattle.wb_cache.proofs.Calls.{length-after_refill}
-use Rattle.wb_cache.proofs.Kept.{AreBytes, bytes-after_read, bytes-after_refill, bytes-after_write}
+use Rattle.wb_cache.proofs.Kept.{bytes-after_read, bytes-after_refill, bytes-after_write}
 use Rattle.wb_cache.proofs.Kept.{memory-bytes-after_refill, sized-after_read, sized-after_refill, sized-after_write}
 use Rattle.cyc_machine.specs.declared.port.Move.{Move}
 use Rattle.cyc_machine.specs.declared.port.Move.TheVariants.{Rests, Reads, Drains, Misses, Waits, Leaves, Fills}

@@ -11,7 +11,7 @@ use Rattle.wb_cache.specs.Contents.{Slot}
 use Rattle.wb_cache.specs.Lookup.{holds, set_of, tag_of, way_of}
 use Rattle.flush_view.specs.Coherence.{Coherent, IsClean, IsSingle}
 use Rattle.flush_view.specs.Views.{byte_in, cached}
-use Rattle.flush_view.proofs.Memory.Ways.{Here, Place, Slots, There, has, holds-one, place, way-none, way-nothing, way-only, way-same, way-some}
+use Rattle.wb_cache.proofs.Ways.{Here, Place, Slots, There, has, holds-one, place, way-none, way-nothing, way-only, way-same, way-some}
 
 -- main memory and the cache after a refill of a way
 abbrev pub written : LoadedImage → Shape → ℕ → ℕ → Slots → (ℕ → ℕ) → ℕ → ℕ
