@@ -2,7 +2,7 @@
 use Rattle.std.proofs.Common.{◌≡◌, ℕ, ◌-◌, ◌<◌, Bool, true, false, List, length, get_or, not, refl, sym, ◌∙◌, ap, arith}
 use Rattle.std.proofs.Math.ListN.{set}
 use Rattle.std.proofs.lemmas.List.{length-set, get_or-set_same, get_or-set_other, set-set, set-get_or, ext_get_or}
-use Rattle.bit_field.specs.Fields.{number_of}
+use Rattle.bit_field.specs.Layouts.{number_of}
 use Rattle.bit_field.specs.Arrays.{bit_of_flags, flip_flag}
 use Rattle.bit_field.specs.Laws.{FlipLaws}
 use Rattle.bit_field.proofs.Rows.{is_one, is_one-number_of}

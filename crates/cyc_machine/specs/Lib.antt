@@ -1,5 +1,6 @@
 pub mod Busy
 pub mod Cycle
+pub mod EventsLaw
 pub mod Facts
 pub mod FlipLaw
 pub mod InFlight
@@ -11,6 +12,7 @@ pub mod PortState
 pub mod RegisterBits
 pub mod Reports
 pub mod Run
+pub mod RunsLaw
 pub mod Sizes
 pub mod State
 pub mod Strikes

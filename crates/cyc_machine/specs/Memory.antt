@@ -20,6 +20,7 @@ use Rattle.wb_cache.specs.Contents.{Contents, slots}
 use Rattle.wb_cache.specs.Lookup.{set_of}
 use Rattle.wb_cache.specs.Access.{found, read, word_of, written}
 use Rattle.cyc_machine.specs.declared.memory_stage.Served.{Served}
+use Rattle.cyc_machine.specs.declared.memory_stage.TheConstants.{REFILL_CYCLES, WRITE_BACK_CYCLES}
 use Rattle.wb_cache.specs.Refill.{memory_refilled, refilled, way_for}
 
 -- Clients.
@@ -52,9 +53,9 @@ store_client image stores = in_ram_entry image (oldest stores)
 abbrev pub is_dirty_victim : Contents → ℕ → Bool
 is_dirty_victim c line = (slots c (set_of c.shape line) (way_for c line)).valid && (slots c (set_of c.shape line) (way_for c line)).dirty
 
--- a miss begins: 16 cycles where the victim must be written back, else 8
+-- a miss begins, and its client waits the longer where the victim must be written back
 abbrev pub missed : Contents → ℕ → Bool → Move
-missed c line owner = Misses line (way_for c line) (if is_dirty_victim c line then 16 else 8) owner
+missed c line owner = Misses line (way_for c line) (if is_dirty_victim c line then WRITE_BACK_CYCLES else REFILL_CYCLES) owner
 
 abbrev pub read_by : Option ℕ → Contents → ℕ → Move
 read_by (Some way) c word = Reads word way

@@ -1,6 +1,12 @@
 // What holds of every machine.
 
+ghost use Rattle.std.specs.Prelude.{ℕ};
+ghost use Rattle.cyc_machine.specs.Cycle.{cycle};
+ghost use Rattle.cyc_machine.specs.EventsLaw.{EventLaw, EventsLaw, HeldLaw};
 ghost use Rattle.cyc_machine.specs.FlipLaw.{FlipsBack, FlipsNoOther, FlipsThatBit};
+ghost use Rattle.cyc_machine.specs.RunsLaw.{RunsLaw};
+ghost use Rattle.cyc_machine.specs.Sizes.{IsSteady};
+ghost use Rattle.cyc_machine.specs.State.{State};
 
 use crate::machine::Machine;
 use bit_field::{Struck, bytes_fit};
@@ -36,4 +42,17 @@ pub fn flip_law()
     ensures flips { FlipsThatBit }
     ensures others { FlipsNoOther }
     ensures restores { FlipsBack }
+{}
+
+/// Changes nothing; its contract is the law of runs from any state: a run goes on from where it stands.
+pub fn runs_law()
+    ensures { RunsLaw }
+{}
+
+/// Changes nothing; its contract is what the events of the cache tell, from every state that has the machine's sizes: what an
+/// event does to its slot, that nothing else changes a slot, that the events of a run rise in cycles, and what each slot holds by them.
+pub fn events_law()
+    ensures cycle { (s : State) → IsSteady s → EventLaw s (cycle s) }
+    ensures runs { (n : ℕ) (s : State) → IsSteady s → EventsLaw n s }
+    ensures held { HeldLaw }
 {}

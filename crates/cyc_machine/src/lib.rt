@@ -19,9 +19,9 @@ mod registers;
 mod report;
 mod strikes;
 
-pub use facts::flip_law;
+pub use facts::{events_law, flip_law, runs_law};
 pub use fate::Fate;
-pub use machine::Machine;
+pub use machine::{CYCLES_PER_INSTRUCTION, Machine};
 pub use memory_stage::Served;
 pub use port::{Move, PortLatch};
 pub use registers::{ProgramCounter, RegisterFile};

@@ -17,6 +17,9 @@ use std::sync::ledger::Ledger;
 use store_buf::StoreBuf;
 use wb_cache::Cache;
 
+/// Within so many cycles the instruction in EX/MEM leaves, or the run ends, whatever the structures hold.
+pub const CYCLES_PER_INSTRUCTION: u32 = 256;
+
 /// The machine: the sixteen structures that can be struck, main memory, and the numbers that go with a run.
 #[derive(Drop)]
 pub struct Machine<'i> {

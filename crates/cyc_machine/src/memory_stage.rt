@@ -14,6 +14,12 @@ use rv_table::{Action, LoadKind, StoreKind, loaded, store_word};
 use store_buf::{Cover, Pending, StoreBuf};
 use wb_cache::Cache;
 
+/// How many cycles a miss waits for its line.
+pub const REFILL_CYCLES: u8 = 8;
+
+/// How many cycles a miss waits where the victim must be written back first.
+pub const WRITE_BACK_CYCLES: u8 = 16;
+
 /// Whether the instruction in EX/MEM leaves in this cycle, and the value for its register.
 #[derive(Clone, Copy, Debug, PartialEq, Eq)]
 pub struct Served {
@@ -131,7 +137,11 @@ fn miss(cache: &Cache, line: u32, owner: bool) -> Move
     Move::Misses {
         line,
         way,
-        count: if written_back { 16 } else { 8 },
+        count: if written_back {
+            WRITE_BACK_CYCLES
+        } else {
+            REFILL_CYCLES
+        },
         owner,
     }
 }

@@ -3,3 +3,4 @@ pub mod Flush
 pub mod Progress
 pub mod Lockstep
 pub mod Run
+pub mod Struck

@@ -1,14 +1,15 @@
 -- What no cycle reads: the fields of empty places, and the cause of no trap. Two states that differ in nothing else do the same for
 -- ever.
-use Rattle.std.specs.Prelude.{◌≡◌, ℕ, ◌==◌, [], ◌∷◌, map, cond, if◌then◌else◌}
+use Rattle.std.specs.Prelude.{◌≡◌, ℕ, suc, ◌==◌, [], ◌∷◌, map, cond, if◌then◌else◌}
 use Rattle.std.specs.Int.{w32, from_le_bytes}
 use Rattle.inst_buf.specs.Entry.{Entry as Fetched, no_entry as no_fetched}
 use Rattle.pipe_latch.specs.Latches.{DecodedLatch, ExecutedLatch, ResultLatch, no_decoded, no_executed, no_result}
 use Rattle.bit_field.specs.Lanes.{has_lane, lane_byte}
 use Rattle.store_buf.specs.Entry.{Entry as Pending, no_entry as no_pending}
 use Rattle.wb_cache.specs.Contents.{Contents, Slot, no_slot, slots}
-use Rattle.cyc_machine.specs.Cycle.{cycle}
-use Rattle.cyc_machine.specs.Facts.{IsMachine}
+use Rattle.cyc_machine.specs.Cycle.{cycle, done_in}
+use Rattle.cyc_machine.specs.Sizes.{IsSteady}
+use Rattle.cyc_machine.specs.Run.{state_after}
 use Rattle.cyc_machine.specs.Reports.{SameReport}
 use Rattle.cyc_machine.specs.State.{State}
 
@@ -75,6 +76,15 @@ pub record DiffersInIgnored (s u : State) : Type 0 where
 -- s's, which is `next`, in ignored fields alone. Their ID/EX are the same, the count of an empty one too: so where that count is the
 -- same from the first, no cycle makes it differ.
 pub record LockstepLaw (s next : State) : Type 0 where
-  pub report : (u : State) → IsMachine u → DiffersInIgnored s u → SameReport s u
-  pub state : (u : State) → IsMachine u → DiffersInIgnored s u → DiffersInIgnored next (cycle u)
-  pub decoded : (u : State) → IsMachine u → DiffersInIgnored s u → next.d ≡ (cycle u).d
+  pub report : (u : State) → DiffersInIgnored s u → SameReport s u
+  pub done : (u : State) → DiffersInIgnored s u → done_in s ≡ done_in u
+  pub state : (u : State) → IsSteady u → DiffersInIgnored s u → DiffersInIgnored next (cycle u)
+  pub decoded : (u : State) → DiffersInIgnored s u → next.d ≡ (cycle u).d
+
+-- s and u go on for ever, differing in ignored fields alone: each cycle has the same report and is done with the same, and each ID/EX
+-- but the first is the same.
+pub record GoesInLockstep (s u : State) : Type 0 where
+  pub state : (n : ℕ) → DiffersInIgnored (state_after n s) (state_after n u)
+  pub report : (n : ℕ) → SameReport (state_after n s) (state_after n u)
+  pub done : (n : ℕ) → done_in (state_after n s) ≡ done_in (state_after n u)
+  pub decoded : (n : ℕ) → (state_after (suc n) s).d ≡ (state_after (suc n) u).d

@@ -2,10 +2,12 @@ pub mod Avoids
 pub mod Coherence
 pub mod Flush
 pub mod FlushLaw
+pub mod FlushParts
 pub mod Ignored
 pub mod MemoryLaw
 pub mod Positions
 pub mod Progress
 pub mod RunFacts
 pub mod RunLaw
+pub mod Struck
 pub mod Views

@@ -1,13 +1,12 @@
 -- Where a run from reset stands in the instruction set's run: positions, and what of the path is on path.
-use Rattle.std.specs.Prelude.{ℕ, zero, suc, ◌+◌, ◌-◌, ◌==◌, ◌&&◌, Bool, is_none, nat_lt, List, [], ◌∷◌, length, if◌then◌else◌}
+use Rattle.std.specs.Prelude.{ℕ, ◌+◌, ◌-◌, ◌==◌, ◌&&◌, Bool, is_none, nat_lt, List, [], ◌∷◌, length, if◌then◌else◌}
 use Rattle.elf_load.specs.Image.{LoadedImage}
 use Rattle.bit_field.specs.declared.shapes.Shape.{Shape}
-use Rattle.rv_isa.specs.Instruction.{State as Arch, Log, logged}
-use Rattle.cyc_machine.specs.Run.{issues_below, state_at}
-use Rattle.cyc_machine.specs.State.{State}
+use Rattle.rv_isa.specs.Instruction.{State as Arch, Log}
+use Rattle.cyc_machine.specs.Run.{issues_below, log_after, state_at}
+use Rattle.cyc_machine.specs.State.{State, reset}
 use Rattle.flush_view.specs.Flush.{path}
 use Rattle.cyc_machine.specs.InFlight.{Item}
-use Rattle.cyc_machine.specs.Cycle.{done_in}
 
 -- x(t): how many instructions have left EX before cycle t
 abbrev pub left_execute : LoadedImage → Shape → ℕ → ℕ
@@ -18,9 +17,8 @@ abbrev pub left_memory : LoadedImage → Shape → ℕ → ℕ
 left_memory image shape t = left_execute image shape t - (if (state_at image shape t).m.valid then 1 else 0)
 
 -- what the cycles below t were done with
-unfoldable pub done_below : LoadedImage → Shape → ℕ → Log
-done_below image shape zero = record { output = []; actions = [] }
-done_below image shape (suc t) = logged (done_below image shape t) (done_in (state_at image shape t))
+abbrev pub done_below : LoadedImage → Shape → ℕ → Log
+done_below image shape t = log_after t (reset image shape) (record { output = []; actions = [] })
 
 -- whether an item of the path is at the address of instruction x, which doesn't come after the end
 abbrev pub is_instruction : (ℕ → Arch) → ℕ → Item → Bool

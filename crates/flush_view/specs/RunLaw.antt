@@ -8,6 +8,7 @@ use Rattle.cyc_machine.specs.Run.{IsRunning, clocks_below, output_below, retired
 use Rattle.flush_view.specs.Positions.{done_below, left_execute, left_memory}
 use Rattle.rv_isa.specs.Runs.{trace_at}
 use Rattle.flush_view.specs.RunFacts.{RunFacts}
+use Rattle.cyc_machine.specs.declared.machine.TheConstants.{CYCLES_PER_INSTRUCTION}
 
 -- With these clock values the instruction set's run ends so after n instructions, with these bytes, and not before.
 pub record EndsAfter (image : LoadedImage) (clocks : List ℕ) (n : ℕ) (end : End) (output : List ℕ) : Type 0 where
@@ -23,6 +24,6 @@ pub record RunLaw (image : LoadedImage) (shape : Shape) : Type 0 where
   -- where the machine ends, the instruction set's run ends so, with the same output, after as many instructions as were retired
   pub ends : (t : ℕ) (end : End) → IsRunning image shape t → end_in (state_at image shape t) ≡ Some end
       → EndsAfter image (clocks_below image shape (suc t)) (retired_below image shape (suc t)) end (output_below image shape (suc t))
-  -- where the instruction set's run ends, the machine ends: within 256 cycles an instruction
-  pub goes_on : (t n : ℕ) → IsRunning image shape t → 256 * n ≤ t → (later : List ℕ)
+  -- where the instruction set's run ends, the machine ends: within so many cycles an instruction
+  pub goes_on : (t n : ℕ) → IsRunning image shape t → CYCLES_PER_INSTRUCTION * n ≤ t → (later : List ℕ)
       → (trace_at image (clocks_below image shape t ++ later) n).stop ≡ None

@@ -1,12 +1,20 @@
-// One cycle, with the laws that hold of it, and the law of the run of an image.
-ghost use Rattle.std.specs.Prelude.{◌≡◌, ◌+◌, ◌<◌, ◌^◌, false};
+// One cycle, with the laws that hold of it; the laws of a cycle, of the flush and of strikes for every state; and the law of the
+// run of an image.
+ghost use Rattle.std.specs.Prelude.{◌≡◌, ◌+◌, ◌<◌, ◌^◌, List, false, ℕ};
 ghost use Rattle.bit_field.specs.Shapes.{IsShape};
+ghost use Rattle.cyc_machine.specs.Cycle.{cycle};
 ghost use Rattle.cyc_machine.specs.Reports.{IsCycle};
+ghost use Rattle.cyc_machine.specs.Sizes.{IsSteady};
+ghost use Rattle.cyc_machine.specs.State.{State};
+ghost use Rattle.cyc_machine.specs.declared.machine.TheConstants.{CYCLES_PER_INSTRUCTION};
 ghost use Rattle.flush_view.specs.FlushLaw.{FlushLaw};
-ghost use Rattle.flush_view.specs.Ignored.{LockstepLaw};
+ghost use Rattle.flush_view.specs.FlushParts.{FlushPartsLaw};
+ghost use Rattle.flush_view.specs.Ignored.{DiffersInIgnored, GoesInLockstep, LockstepLaw};
 ghost use Rattle.flush_view.specs.MemoryLaw.{MemoryLaw};
 ghost use Rattle.flush_view.specs.Progress.{LeavesWithin};
 ghost use Rattle.flush_view.specs.RunLaw.{RunLaw};
+ghost use Rattle.flush_view.specs.Struck.{StruckLaws};
+ghost use Rattle.rv_isa.specs.Instruction.{Log};
 
 use avf_base::Steps;
 use bit_field::Shape;
@@ -16,7 +24,7 @@ use std::sync::ledger::Ledger;
 
 /// One clock cycle, as `Machine::step`; its contract has the laws of a cycle besides, which hold whatever the machine's
 /// structures hold: what the cycle does to memory, to the flush (after Burch and Dill, CAV 1994) and to a state that differs in
-/// ignored fields alone, and that from the state at entry an instruction leaves EX/MEM within 256 cycles.
+/// ignored fields alone, and that from the state at entry an instruction leaves EX/MEM within `CYCLES_PER_INSTRUCTION` cycles.
 pub fn step_flush<L: Ledger>(m: &mut Machine<'_>, steps: &mut Steps<L>) -> CycleReport
     requires running { m.old.ended ≡ false }
     requires cycles { m.old.cycle < 2 ^ 31 }
@@ -24,12 +32,34 @@ pub fn step_flush<L: Ledger>(m: &mut Machine<'_>, steps: &mut Steps<L>) -> Cycle
     ensures steps { steps.new ≡ steps.old + 1 }
     ensures memory { MemoryLaw m.old m.new }
     ensures flush { FlushLaw m.old m.new }
-    ensures progress { LeavesWithin 256 m.old }
+    ensures progress { LeavesWithin CYCLES_PER_INSTRUCTION m.old }
     ensures lockstep { LockstepLaw m.old m.new }
 {
     m.is_machine();
     m.step(steps)
 }
+
+/// Does nothing; its contract is the laws of a cycle for every state whose sizes last, whatever strikes have left in it: what a
+/// cycle does to memory and to the flush, that an instruction soon leaves EX/MEM, and that two states which differ in ignored
+/// fields alone do the same in the next cycle and for ever.
+pub fn cycle_laws()
+    ensures memory { (s : State) → IsSteady s → MemoryLaw s (cycle s) }
+    ensures flush { (s : State) → IsSteady s → FlushLaw s (cycle s) }
+    ensures progress { (s : State) → IsSteady s → LeavesWithin CYCLES_PER_INSTRUCTION s }
+    ensures lockstep { (s : State) → IsSteady s → LockstepLaw s (cycle s) }
+    ensures for_ever { (s u : State) → IsSteady s → IsSteady u → DiffersInIgnored s u → GoesInLockstep s u }
+{}
+
+/// Does nothing; its contract is what strikes do to the view, to coherence and to the flush, for every state: fields that none of
+/// them reads, a line slot replaced by another, other bytes in a slot, and a slot of the store buffer replaced by another.
+pub fn struck_laws()
+    ensures { StruckLaws }
+{}
+
+/// Does nothing; its contract is what the flush of every state makes of the log before it and of the clock values.
+pub fn flush_laws()
+    ensures parts { (s : State) (clocks : List ℕ) (log : Log) → FlushPartsLaw s clocks log }
+{}
 
 /// Changes nothing; its contract is the law of the run of an image from reset, on a machine of a shape: each of its states
 /// follows the instruction set's run, and it ends as that run does.

@@ -6,12 +6,11 @@ use Rattle.elf_load.specs.Image.{LoadedImage}
 use Rattle.bit_field.specs.Shapes.{IsShape}
 use Rattle.bit_field.specs.declared.shapes.Shape.{Shape}
 use Rattle.cyc_machine.specs.Cycle.{cycle, cycled, end_in, event_in, put_in, retires}
-use Rattle.cyc_machine.specs.Run.{IsRunning, clocks_below, cycle_if, events_below, issues, issues_below, issues_clock, output_below, retired_below, state_after, state_at, with_one}
+use Rattle.cyc_machine.specs.Run.{IsRunning, clocks_after, clocks_below, cycle_if, events_after, events_below, issues, issues_after, issues_below, issues_clock, output_after, output_below, retired_after, retired_below, state_after, state_at, with_one}
 use Rattle.cyc_machine.specs.State.{State, reset}
-use Rattle.run_record.specs.Journals.{IsEmpty, closed}
+use Rattle.run_record.specs.Journals.{Adds, IsEmpty, closed, entry_of}
 use Rattle.run_record.specs.Run.{IsRecord}
 use Rattle.run_record.specs.declared.journal.Journal.{Journal}
-use Rattle.run_log.specs.Cycles.{IsWritten}
 
 -- the machine and the journal before cycle t, no end having come
 pub record Kept (image : LoadedImage) (shape : Shape) (t : ℕ) (machine : State) (journal : Journal) : Type 0 where
@@ -27,7 +26,7 @@ pub record Kept (image : LoadedImage) (shape : Shape) (t : ℕ) (machine : State
   pub few : journal.retired ≤ t
 
 pub starts : (image : LoadedImage) (shape : Shape) (machine : State) (journal : Journal) → machine ≡ reset image shape → IsEmpty journal → Kept image shape 0 machine journal
-unfolding state_after output_below events_below issues_below clocks_below retired_below reset
+unfolding state_after output_after events_after issues_after clocks_after retired_after reset
 starts image shape machine journal e h = record {
   state = e;
   number = ap (λ (s : State). s.cycle) e;
@@ -59,26 +58,26 @@ running_more image shape t none running u l = elim (last u l) as (λ _. end_in (
     last v l = grind arith
 
 -- The lists after one more cycle.
-module _ (image : LoadedImage) (shape : Shape) (t : ℕ) (s : State) (old new : Journal) (kept : Kept image shape t s old) (written : IsWritten s old new) where
-  output_after : new.output.items ≡ output_below image shape (suc t)
-  unfolding output_below
-  output_after = written.output ∙ with_one-same _ _ _ _ kept.output (ap put_in kept.state)
+module _ (image : LoadedImage) (shape : Shape) (t : ℕ) (s : State) (old new : Journal) (kept : Kept image shape t s old) (written : Adds (entry_of s) old new) where
+  output_next : new.output.items ≡ output_below image shape (suc t)
+  unfolding output_after
+  output_next = written.output ∙ with_one-same _ _ _ _ kept.output (ap put_in kept.state)
 
-  events_after : new.events.items ≡ events_below image shape (suc t)
-  unfolding events_below
-  events_after = written.events ∙ with_one-same _ _ _ _ kept.events (ap event_in kept.state)
+  events_next : new.events.items ≡ events_below image shape (suc t)
+  unfolding events_after
+  events_next = written.events ∙ with_one-same _ _ _ _ kept.events (ap event_in kept.state)
 
-  issues_after : new.issues.items ≡ issues_below image shape (suc t)
-  unfolding issues_below
-  issues_after = written.issues_at ∙ with_one-same _ _ _ _ kept.issues_at (ap (λ (x : State). cycle_if (issues x) x) kept.state)
+  issues_next : new.issues.items ≡ issues_below image shape (suc t)
+  unfolding issues_after
+  issues_next = written.issues ∙ with_one-same _ _ _ _ kept.issues_at (ap (λ (x : State). cycle_if (issues x) x) kept.state)
 
-  clocks_after : new.clocks.items ≡ clocks_below image shape (suc t)
-  unfolding clocks_below
-  clocks_after = written.clocks ∙ with_one-same _ _ _ _ kept.clocks (ap (λ (x : State). cycle_if (issues_clock x) x) kept.state)
+  clocks_next : new.clocks.items ≡ clocks_below image shape (suc t)
+  unfolding clocks_after
+  clocks_next = written.clocks ∙ with_one-same _ _ _ _ kept.clocks (ap (λ (x : State). cycle_if (issues_clock x) x) kept.state)
 
-  retired_after : new.retired ≡ retired_below image shape (suc t)
-  unfolding retired_below
-  retired_after = written.retired ∙ counted _ _ _ _ (ap retires kept.state) kept.retired
+  retired_next : new.retired ≡ retired_below image shape (suc t)
+  unfolding retired_after
+  retired_next = written.retired ∙ counted _ _ _ _ (ap retires kept.state) kept.retired
 
   end_as : end_in s ≡ end_in (state_at image shape t)
   end_as = ap end_in kept.state
@@ -91,11 +90,11 @@ module _ (image : LoadedImage) (shape : Shape) (t : ℕ) (s : State) (old new : 
     number = ap (λ (x : State). x.cycle) e ∙ ap (λ n. n + 1) kept.number ∙ add-one t;
     going = ap (λ (x : State). x.ended) e ∙ ap is_some none;
     running = running_more image shape t (sym end_as ∙ none) kept.running;
-    output = output_after;
-    events = events_after;
-    issues_at = issues_after;
-    clocks = clocks_after;
-    retired = retired_after;
+    output = output_next;
+    events = events_next;
+    issues_at = issues_next;
+    clocks = clocks_next;
+    retired = retired_next;
     few = let h = count_below (retires s) old.retired new.retired t written.retired kept.few in omega (arith, h);
   }
 
@@ -107,9 +106,9 @@ module _ (image : LoadedImage) (shape : Shape) (t : ℕ) (s : State) (old new : 
     cycles = c ∙ sym (add-one t);
     running = kept.running;
     ends = sym end_as ∙ e;
-    instructions = retired_after ∙ ap (retired_below image shape) (sym c);
-    output = output_after ∙ ap (output_below image shape) (sym c);
-    events = events_after ∙ ap (events_below image shape) (sym c);
-    issues = issues_after ∙ ap (issues_below image shape) (sym c);
-    clocks = clocks_after ∙ ap (clocks_below image shape) (sym c);
+    instructions = retired_next ∙ ap (retired_below image shape) (sym c);
+    output = output_next ∙ ap (output_below image shape) (sym c);
+    events = events_next ∙ ap (events_below image shape) (sym c);
+    issues = issues_next ∙ ap (issues_below image shape) (sym c);
+    clocks = clocks_next ∙ ap (clocks_below image shape) (sym c);
   }

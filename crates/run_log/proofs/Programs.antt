@@ -5,7 +5,7 @@ use Rattle.avf_base.specs.declared.end.End.{End}
 use Rattle.elf_load.specs.Image.{LoadedImage}
 use Rattle.bit_field.specs.declared.shapes.Shape.{Shape}
 use Rattle.cyc_machine.specs.Cycle.{retires}
-use Rattle.cyc_machine.specs.Run.{IsRunning, clocks_below, output_below, retired_below, state_at}
+use Rattle.cyc_machine.specs.Run.{IsRunning, clocks_below, output_below, retired_after, retired_below, state_at}
 use Rattle.flush_view.specs.RunLaw.{EndsAfter, RunLaw}
 use Rattle.run_record.specs.Journals.{closed}
 use Rattle.run_record.specs.declared.journal.Journal.{Journal}
@@ -15,7 +15,8 @@ use Rattle.run_record.specs.Run.{IsRecord, RecordedRun}
 ends_same : (image : LoadedImage) (clocks other : List ℕ) (n m : ℕ) (end : End) (output bytes : List ℕ) → clocks ≡ other → n ≡ m → output ≡ bytes → EndsAfter image other m end bytes → EndsAfter image clocks n end output
 ends_same image clocks other n m end output bytes e f g h = rw (e, f, g) h
 
-program : (r : RecordedRun) → RunLaw r.image r.shape → IsRecord r → EndsAfter r.image r.clocks r.instructions r.end r.output
+-- a record is the instruction set's run
+pub program : (r : RecordedRun) → RunLaw r.image r.shape → IsRecord r → EndsAfter r.image r.clocks r.instructions r.end r.output
 program r law is =
     let cycles : r.cycles ≡ suc is.last = omega (arith, is.cycles) in
     ends_same r.image r.clocks (clocks_below r.image r.shape (suc is.last)) r.instructions (retired_below r.image r.shape (suc is.last)) r.end r.output (output_below r.image r.shape (suc is.last))
@@ -30,7 +31,7 @@ one_more true n t h = omega arith
 one_more false n t h = omega arith
 
 pub few_below : (image : LoadedImage) (shape : Shape) (t : ℕ) → retired_below image shape t ≤ t
-unfolding retired_below
+unfolding retired_after
 few_below image shape zero = omega arith
 few_below image shape (suc t) = one_more (retires (state_at image shape t)) (retired_below image shape t) t (few_below image shape t)
 
@@ -40,10 +41,7 @@ few r is = let below = few_below r.image r.shape r.cycles in omega (arith, is.in
 -- the record of a run that was written down to its end
 pub is_run : (image : LoadedImage) (shape : Shape) (budget cycles : ℕ) (end : End) (journal : Journal) → RunLaw image shape → IsRecord (closed image shape cycles end journal) → cycles ≤ budget → IsRunOf image shape budget (closed image shape cycles end journal)
 is_run image shape budget cycles end journal law is within = record {
-  image_is = refl;
-  shape_is = refl;
-  within = within;
-  is_record = is;
+  record_of = record { image_is = refl; shape_is = refl; within = within; is_record = is };
   program = program (closed image shape cycles end journal) law is;
   few = few (closed image shape cycles end journal) is;
 }

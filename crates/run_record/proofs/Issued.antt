@@ -10,7 +10,7 @@ use Rattle.cyc_machine.specs.Pipeline.{executed_after}
 use Rattle.cyc_machine.specs.Cycle.{cycled, fate, served_m}
 use Rattle.cyc_machine.specs.State.{State, reset}
 use Rattle.run_record.specs.Run.{IsRecord, RecordedRun}
-use Rattle.cyc_machine.specs.Run.{cycle_if, goes, issues_below, retired_below, state_after, state_at, with_one}
+use Rattle.cyc_machine.specs.Run.{cycle_if, goes, issues_after, issues_below, retired_after, retired_below, state_after, state_at, with_one}
 
 -- how many instructions a latch holds
 abbrev pub occupied : Bool → ℕ
@@ -54,7 +54,7 @@ by_fate image (Goes a b) leaves d cycle issued m s n xs h =
     omega (arith, one, out, longer, h)
 
 pub retired-issued : (image : LoadedImage) (shape : Shape) (t : ℕ) → retired_below image shape t + occupied (state_at image shape t).m.valid ≤ length (issues_below image shape t)
-unfolding state_after retired_below issues_below cycled reset
+unfolding state_after retired_after issues_after cycled reset
 retired-issued image shape zero = omega arith
 retired-issued image shape (suc t) =
     let s = state_at image shape t in

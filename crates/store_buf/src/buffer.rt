@@ -31,7 +31,7 @@ impl Model for StoreBuf {
 }
 
 impl Struck for StoreBuf {
-    ghost use Rattle.store_buf.specs.Bits as spec;
+    ghost use Rattle.store_buf.specs.BufferBits as spec;
 
     ghost IsFit = { spec.IsFit };
 

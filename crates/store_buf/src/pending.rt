@@ -33,7 +33,7 @@ impl Model for Pending {
 }
 
 impl Struck for Pending {
-    ghost use Rattle.store_buf.specs.Bits as spec;
+    ghost use Rattle.store_buf.specs.BufferBits as spec;
 
     ghost IsFit = { spec.IsFitEntry };
 

@@ -8,14 +8,15 @@ use Rattle.bit_field.specs.Lanes.{lane_byte}
 use Rattle.bit_field.specs.declared.shapes.Shape.{Shape}
 use Rattle.elf_load.specs.Image.{LoadedImage, IsImage, ram_byte}
 use Rattle.wb_cache.specs.Access.{byte_of, found, put, written}
-use Rattle.wb_cache.specs.Bytewise.{RefillsLine, WritesLanes, is_lane_of, victim_of}
+use Rattle.wb_cache.specs.Bytewise.{RefillsLine, WritesLanes, is_lane_of}
 use Rattle.wb_cache.specs.Changes.{filled_slot, put_slot, written_slot}
 use Rattle.wb_cache.specs.Contents.{Contents, IsSized, Slot, slots}
-use Rattle.wb_cache.specs.Lookup.{holds, set_of, tag_of, way_of}
+use Rattle.wb_cache.specs.Lookup.{holds, set_of, way_of}
 use Rattle.wb_cache.specs.Refill.{filled, memory_refilled, refilled, way_for, written_back}
 use Rattle.wb_cache.specs.Replacement.{victim}
-use Rattle.wb_cache.proofs.Calls.{length-after_refill, ram-after_refill, slots-after_refill, slots-after_write}
+use Rattle.wb_cache.proofs.Calls.{ram-after_refill, slots-after_refill, slots-after_write}
 use Rattle.wb_cache.proofs.Hits.{written-hit, written-miss}
+use Rattle.wb_cache.proofs.Kept.{shape-after_refill, shape-after_write}
 use Rattle.wb_cache.proofs.Victims.{victim-below}
 use Rattle.wb_cache.proofs.Ways.{Here, Place, Slots, There, has, holds-one, place, way-none, way-only, way-same, way-some}
 
@@ -109,7 +110,7 @@ module _ (shape : Shape) (line word mask value way : ℕ) (cache : Slots) (hit :
 
 -- ---- a refill
 
-filled-self : (shape : Shape) (ram : ℕ → ℕ) (line : ℕ) → holds shape line (filled_slot shape ram line) ≡ true
+pub filled-self : (shape : Shape) (ram : ℕ → ℕ) (line : ℕ) → holds shape line (filled_slot shape ram line) ≡ true
 unfolding filled_slot
 filled-self shape ram line = grind (arith, nat_tests)
 
@@ -188,10 +189,6 @@ byte_of-given : (c : Contents) (shape : Shape) (cache : Slots) (p : ℕ) → c.s
 unfolding byte_of
 byte_of-given c shape cache p e f = ap (λ (s : Shape). given s (slots c) p) e ∙ ap (λ (s : Slots). given shape s p) f
 
-shape-written : (c : Contents) (line word mask value way : ℕ) → found c line ≡ Some way → (written line word mask value c).shape ≡ c.shape
-unfolding put
-shape-written c line word mask value way hit = ap (λ (d : Contents). d.shape) (written-hit c line word mask value way (sym hit))
-
 pub writes-lanes : (line word mask value : ℕ) (c : Contents) → IsSized c → word < 4 → WritesLanes line word mask value c (written line word mask value c)
 unfolding byte_of
 writes-lanes line word mask value c sized w = record {
@@ -214,7 +211,7 @@ writes-lanes line word mask value c sized w = record {
     go p None miss =
         ap (λ (d : Contents). byte_of d p) (written-miss c line word mask value (sym miss)) ∙ missed p miss (way_of c.shape (slots c) (p / 16)) refl
     go p (Some way) hit =
-        byte_of-given (written line word mask value c) c.shape _ p (shape-written c line word mask value way hit) (slots-after_write c line word mask value way sized w hit)
+        byte_of-given (written line word mask value c) c.shape _ p (shape-after_write c line word mask value) (slots-after_write c line word mask value way sized w hit)
         ∙ written-given c.shape line word mask value way (slots c) hit p
 
 -- the same of what the calls compute
@@ -227,10 +224,6 @@ pub missed-lanes : (line word mask value : ℕ) (c : Contents) → IsSized c →
     → WritesLanes line word mask value c c
 missed-lanes line word mask value c sized w miss =
     subst (λ (x : Contents). WritesLanes line word mask value c x) (written-miss c line word mask value miss) (writes-lanes line word mask value c sized w)
-
-shape-refilled : (image : LoadedImage) (line : ℕ) (memory : List ℕ) (c : Contents) → (refilled image line memory c).shape ≡ c.shape
-unfolding refilled filled
-shape-refilled image line memory c = refl
 
 module _ (image : LoadedImage) (line : ℕ) (memory : List ℕ) (c : Contents) (is : IsImage image) (long : length memory ≡ length image.ram)
     (sized : IsSized c) (miss : found c line ≡ None) where
@@ -247,7 +240,7 @@ module _ (image : LoadedImage) (line : ℕ) (memory : List ℕ) (c : Contents) (
 
   next-byte : (p : ℕ) → byte_of (refilled image line memory c) p
       ≡ given c.shape (put_slot (set_of c.shape line) (way_for c line) (filled_slot c.shape next_ram line) (slots c)) p
-  next-byte p = byte_of-given (refilled image line memory c) c.shape _ p (shape-refilled image line memory c) next-slots
+  next-byte p = byte_of-given (refilled image line memory c) c.shape _ p (shape-after_refill image line memory c) next-slots
 
   pub refills-line : RefillsLine image line c (refilled image line memory c) memory (memory_refilled image line c memory)
   refills-line = record {

@@ -1,4 +1,4 @@
--- Every call keeps the lengths of the arrays and the widths of bytes and tags.
+-- Every call keeps the shape, the lengths of the arrays and the widths of bytes and tags.
 use Rattle.std.proofs.Common.{◌≡◌, ℕ, zero, suc, ◌+◌, ◌-◌, ◌*◌, ◌^◌, ◌<◌, Bool, true, false, cond, List, length, arith, refl, ◌++◌, take, drop}
 use Rattle.std.proofs.Math.ListN.{length-set, set}
 use Rattle.std.specs.List.{replace_range}
@@ -17,6 +17,24 @@ use Rattle.wb_cache.proofs.Lengths.{sized-same, length-used, length-put_word, le
 use Rattle.wb_cache.proofs.Ram.{length-line_bytes}
 use Rattle.wb_cache.proofs.Sizes.{set_below, slot_below}
 use Rattle.wb_cache.proofs.Victims.{victim-below}
+
+-- ---- the shape
+
+hit-shape : (c : Contents) (change : ℕ → Contents) (o : Option ℕ) → ((w : ℕ) → (change w).shape ≡ c.shape) → (on_hit o change c).shape ≡ c.shape
+hit-shape c change (Some w) same = same w
+hit-shape c change None same = refl
+
+pub shape-after_read : (c : Contents) (line : ℕ) → (read line c).shape ≡ c.shape
+unfolding read
+shape-after_read c line = hit-shape c _ (found c line) (λ w. refl)
+
+pub shape-after_write : (c : Contents) (line word mask value : ℕ) → (written line word mask value c).shape ≡ c.shape
+unfolding written put
+shape-after_write c line word mask value = hit-shape c _ (found c line) (λ w. refl)
+
+pub shape-after_refill : (image : LoadedImage) (line : ℕ) (memory : List ℕ) (c : Contents) → (refilled image line memory c).shape ≡ c.shape
+unfolding refilled filled
+shape-after_refill image line memory c = refl
 
 -- ---- lengths
 

@@ -54,7 +54,7 @@ pub holds-one : (shape : Shape) (line other : ℕ) (slot : Slot) → set_of shap
     → holds shape other slot ≡ true → line ≡ other
 holds-one shape line other slot s h k = same_line shape line other s (sym (holds-tag shape line slot h) ∙ holds-tag shape other slot k)
 
-holds-valid : (shape : Shape) (line : ℕ) (slot : Slot) → holds shape line slot ≡ true → slot.valid ≡ true
+pub holds-valid : (shape : Shape) (line : ℕ) (slot : Slot) → holds shape line slot ≡ true → slot.valid ≡ true
 holds-valid shape line slot h = grind (arith, nat_tests)
 
 -- a slot that was found is valid

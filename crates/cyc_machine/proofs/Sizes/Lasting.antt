@@ -1,5 +1,5 @@
 -- What a cycle keeps of every machine's state, and what the laws of a cycle need of it.
-use Rattle.std.proofs.Common.{arith, refl, ◌∙◌}
+use Rattle.std.proofs.Common.{ℕ, zero, suc, arith, refl, ◌∙◌}
 use Rattle.bit_field.specs.Shapes.{IsShape}
 use Rattle.bit_field.specs.declared.shapes.Shape.{Shape}
 use Rattle.elf_load.specs.Image.{LoadedImage, IsImage}
@@ -8,6 +8,7 @@ use Rattle.store_buf.proofs.Packed.{length-pending}
 use Rattle.wb_cache.proofs.Empty.{contents-empty, sized-empty}
 use Rattle.cyc_machine.specs.Cycle.{action_in_m, cycle, cycled, fate, move, served_m}
 use Rattle.cyc_machine.specs.Facts.{IsMachine}
+use Rattle.cyc_machine.specs.Run.{state_after}
 use Rattle.cyc_machine.specs.Sizes.{HoldsBytes, IsSteady}
 use Rattle.cyc_machine.specs.State.{State, reset}
 use Rattle.cyc_machine.proofs.Sizes.CacheKept.{cache_after-bytes, cache_after-sized, memory_after-bytes, memory_after-long, ram-bytes}
@@ -75,3 +76,8 @@ steady-reset image shape is fits = record {
   port = omega arith;
   stores = omega arith;
 }
+
+pub steady-after : (n : ℕ) (s : State) → IsSteady s → IsSteady (state_after n s)
+unfolding state_after
+steady-after zero s is = is
+steady-after (suc n) s is = steady-next (state_after n s) (steady-after n s is)

@@ -143,7 +143,7 @@ after-action : (out : ℕ → Bool) (actions : List Action) (m : Action) → Avo
 after-action out [] m h k = (k, tt)
 after-action out (a ∷ actions) m h k = (h.0, after-action out actions m h.1 k)
 
-after-logged : (out : ℕ → Bool) (actions : List Action) (m : Action) → AvoidsAll out actions → Avoids out m → AvoidsAll out (with_action actions m)
+pub after-logged : (out : ℕ → Bool) (actions : List Action) (m : Action) → AvoidsAll out actions → Avoids out m → AvoidsAll out (with_action actions m)
 after-logged out actions Nothing h k = h
 after-logged out actions (Writes rd value) h k = after-action out actions (Writes rd value) h k
 after-logged out actions (Loads kind rd x) h k = after-action out actions (Loads kind rd x) h k
@@ -168,16 +168,16 @@ by_moved out before moved from to after e avoids f same g =
     let x : to ≡ outside out moved = same ∙ sym (f (subst (λ (a : Arch). AvoidsAll out a.log.actions) (sym e) avoids)) ∙ ap (outside out) e in
     g (subst (λ (a : Arch). AvoidsAll out a.log.actions) (sym x) avoids) ∙ x
 
-pub flush-goes : (s : State) → IsSteady s → AreBytes s.cache.bytes → (out : ℕ → Bool) (clocks : List ℕ) (log : Log) → IsCoherent out s
+pub flush-goes : (s : State) → IsSteady s → (out : ℕ → Bool) (clocks : List ℕ) (log : Log) → IsCoherent out s
     → AvoidsFlush out s (fed s clocks) log → end_in s ≡ None
     → outside out (flush (cycle s) clocks (logged log (done_in s))) ≡ outside out (moved_flush s (fed s clocks) log)
 unfolding flush_over
-flush-goes s is bytes out clocks log coherent avoids h =
+flush-goes s is out clocks log coherent avoids h =
     by_moved out _ _ _ _ (flush (cycle s) clocks (logged log (done_in s)))
     (more-moved s (fed s clocks) log)
     (moved-avoids s out (fed s clocks) log avoids)
     (more-outside s out (fed s clocks) log (added_to (fate s) (piped s)))
-    (masked-law s is bytes out clocks log coherent (flush-first s out (fed s clocks) log avoids.done) h)
+    (masked-law s is out clocks log coherent (flush-first s out (fed s clocks) log avoids.done) h)
     (flush-masked (cycle s) out clocks (logged log (done_in s)))
 
 -- ---- the cycle that ends the run
@@ -203,5 +203,5 @@ flush-ends s clocks log e h =
     let is : completed_path s.image (path s) (latched s clocks log) ≡ latched s clocks log = stopped s.image (path s) (latched s clocks log) e h in
     (ap (λ (a : Arch). a.stop) is ∙ h, ap (λ (a : Arch). a.log.output) is ∙ no_byte (action_in_m s) e log.output h)
 
-pub flush-law : (s : State) → IsSteady s → AreBytes s.cache.bytes → FlushLaw s (cycle s)
-flush-law s is bytes = record { goes = flush-goes s is bytes; ends = flush-ends s; counts = flush-counts s; leaves = flush-leaves s }
+pub flush-law : (s : State) → IsSteady s → FlushLaw s (cycle s)
+flush-law s is = record { goes = flush-goes s is; ends = flush-ends s; counts = flush-counts s; leaves = flush-leaves s }

@@ -96,12 +96,12 @@ by_served p true value pc memory after clocks log v e h =
 by_served p false value pc memory after clocks log v e h =
     rw e (waits (fate_of p.d p.npc p.m p.w false) p value pc memory clocks log refl h)
 
-pub masked-law : (s : State) → IsSteady s → AreBytes s.cache.bytes → (out : ℕ → Bool) (clocks : List ℕ) (log : Log) → IsCoherent out s
+pub masked-law : (s : State) → IsSteady s → (out : ℕ → Bool) (clocks : List ℕ) (log : Log) → IsCoherent out s
     → Avoids out (action_in_m s) → end_in s ≡ None → flush_over (cycle s) (masked out (view (cycle s))) clocks (logged log (done_in s))
     ≡ flush_more (added_to (fate s) (piped s)) (piped s) (masked out (view s)) (fed s clocks) log
 unfolding flush_over
-masked-law s is bytes out clocks log coherent avoids h =
-    let law : MemoryLaw s (cycle s) = memory-law s is bytes in
+masked-law s is out clocks log coherent avoids h =
+    let law : MemoryLaw s (cycle s) = memory-law s is in
     subst (λ q. flush_pipe q (masked out (view (cycle s))) clocks (logged log (done_in s))
     ≡ flush_more (added_to (fate s) (piped s)) (piped s) (masked out (view s)) (fed s clocks) log) (sym (piped-next s is))
     (by_served (piped s) (served_m s).goes (served_m s).value (cycle s).pc (masked out (view s)) (masked out (view (cycle s))) clocks log

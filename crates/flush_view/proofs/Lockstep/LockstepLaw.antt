@@ -1,5 +1,5 @@
 -- The lockstep law: two states that differ in ignored fields alone do the same for ever.
-use Rattle.std.proofs.Common.{◌≡◌, ℕ, ◌+◌, Bool, List, length, refl, sym, ap, ◌∙◌, subst}
+use Rattle.std.proofs.Common.{◌≡◌, ℕ, zero, suc, ◌+◌, Bool, List, length, refl, sym, ap, ◌∙◌, subst}
 use Rattle.std.specs.Prelude.{◌&&◌, Option, is_some, map}
 use Rattle.std.specs.Option.{option_map}
 use Rattle.rv_isa.specs.Instruction.{end_of}
@@ -15,12 +15,12 @@ use Rattle.elf_load.specs.Image.{LoadedImage}
 use Rattle.cyc_machine.specs.declared.fate.Fate.{Fate}
 use Rattle.cyc_machine.specs.declared.fate.Fate.TheVariants.{Absent}
 use Rattle.cyc_machine.specs.declared.memory_stage.Served.{Served}
-use Rattle.cyc_machine.specs.Cycle.{action_in_m, cycle, cycled, event_by, event_in, fate, issued_from, move, next_fetch, served_m}
-use Rattle.cyc_machine.specs.Facts.{IsMachine}
+use Rattle.cyc_machine.specs.Cycle.{action_in_m, cycle, cycled, done_in, event_by, event_in, fate, issued_from, move, next_fetch, served_m}
 use Rattle.cyc_machine.specs.Memory.{cache_after, load_client, memory_after, move_of, port_after, result_after, served, store_client, stores_after, word_read}
 use Rattle.cyc_machine.specs.Pipeline.{decoded_after, entries_after, executed_after, fate_of, issued_after, lesson, npc_after, trained_by, written_registers}
+use Rattle.cyc_machine.specs.Run.{state_after}
 use Rattle.cyc_machine.specs.State.{State}
-use Rattle.flush_view.specs.Ignored.{DiffersInIgnored, LockstepLaw, SameLines}
+use Rattle.flush_view.specs.Ignored.{DiffersInIgnored, GoesInLockstep, LockstepLaw, SameLines}
 use Rattle.cyc_machine.specs.Reports.{SameReport}
 use Rattle.flush_view.specs.Ignored.{read_of_decoded, read_of_executed, read_of_fetched, read_of_pending, read_of_result}
 use Rattle.flush_view.proofs.Lockstep.NextLines.{lines-next, memory-next}
@@ -30,7 +30,7 @@ use Rattle.flush_view.proofs.Lockstep.PortMoves.{event-same, masked_move, move-m
 use Rattle.flush_view.proofs.Lockstep.NextLatches.{decoded-empty, decoded-same, executed-empty, executed-same, npc-empty, registers-same, tables-empty}
 use Rattle.flush_view.proofs.Lockstep.Stores.{load_client-same, masked_entries, masked_entry, pending-same, served-same, store_client-same}
 use Rattle.cyc_machine.proofs.Tells.{Tells, tells}
-use Rattle.cyc_machine.proofs.Sizes.Lasting.{machine-steady, steady-next}
+use Rattle.cyc_machine.proofs.Sizes.Lasting.{steady-next}
 use Rattle.cyc_machine.specs.Sizes.{IsSteady}
 
 module _ (s u : State) (same : DiffersInIgnored s u) where
@@ -114,6 +114,9 @@ module _ (s u : State) (same : DiffersInIgnored s u) where
         event = same-event;
         end = ap (λ (x : Action). end_of x) same-action;
       }
+
+  pub same-done : done_in s ≡ done_in u
+  same-done = let a = same-action in let v = same-served in cc
 
   -- ---- the next state
 
@@ -224,10 +227,37 @@ module _ (s u : State) (same : DiffersInIgnored s u) where
           ended = ap (λ (x : Action). is_some (end_of x)) same-action;
         }
 
-pub lockstep-law : (s : State) → IsMachine s → LockstepLaw s (cycle s)
+pub lockstep-law : (s : State) → IsSteady s → LockstepLaw s (cycle s)
 lockstep-law s is =
     record {
-      report = λ u other same. same-report s u same;
-      state = λ u other same. same-next s u same (machine-steady s is) (machine-steady u other);
-      decoded = λ u other same. same-decoded s u same;
+      report = λ u same. same-report s u same;
+      done = λ u same. same-done s u same;
+      state = λ u other same. same-next s u same is other;
+      decoded = λ u same. same-decoded s u same;
     }
+
+-- ---- many cycles
+
+-- to move: cyc_machine
+steady-after : (n : ℕ) (s : State) → IsSteady s → IsSteady (state_after n s)
+unfolding state_after
+steady-after zero s is = is
+steady-after (suc n) s is = steady-next (state_after n s) (steady-after n s is)
+
+module _ (s u : State) (is : IsSteady s) (other : IsSteady u) (same : DiffersInIgnored s u) where
+  lockstep-after : (n : ℕ) → DiffersInIgnored (state_after n s) (state_after n u)
+  unfolding state_after
+  lockstep-after zero = same
+  lockstep-after (suc n) = same-next (state_after n s) (state_after n u) (lockstep-after n) (steady-after n s is) (steady-after n u other)
+
+  decoded-after : (n : ℕ) → (state_after (suc n) s).d ≡ (state_after (suc n) u).d
+  unfolding state_after
+  decoded-after n = same-decoded (state_after n s) (state_after n u) (lockstep-after n)
+
+  pub goes-in-lockstep : GoesInLockstep s u
+  goes-in-lockstep = record {
+    state = lockstep-after;
+    report = λ n. same-report (state_after n s) (state_after n u) (lockstep-after n);
+    done = λ n. same-done (state_after n s) (state_after n u) (lockstep-after n);
+    decoded = decoded-after;
+  }

@@ -9,7 +9,7 @@ use Rattle.store_buf.proofs.Packed.{mask-free}
 use Rattle.flush_view.specs.Views.{over, overlaid}
 
 -- a free slot holds no byte
-over-free : (e : Entry) (p below : ℕ) → is_pending e ≡ false → over e p below ≡ below
+pub over-free : (e : Entry) (p below : ℕ) → is_pending e ≡ false → over e p below ≡ below
 over-free e p below free =
     let lanes : has_lane e.mask (p % 4) ≡ false = ap (λ (m : ℕ). has_lane m (p % 4)) (mask-free e free) ∙ rw (bit_at-zero (p % 4)) in
     grind (arith, nat_tests)
@@ -20,7 +20,7 @@ unfolding overlaid
 overlaid_kept e stores slots p below true used same = same (over e p below)
 overlaid_kept e stores slots p below false free same = same below ∙ ap (overlaid slots p) (sym (over-free e p below free))
 
-overlaid-pending : (slots : List Entry) (p below : ℕ) → overlaid (pending slots) p below ≡ overlaid slots p below
+pub overlaid-pending : (slots : List Entry) (p below : ℕ) → overlaid (pending slots) p below ≡ overlaid slots p below
 unfolding overlaid
 overlaid-pending [] p below = refl
 overlaid-pending (e ∷ slots) p below = overlaid_kept e (pending slots) slots p below (is_pending e) refl (λ x. overlaid-pending slots p x)

@@ -78,7 +78,7 @@ clear es addr lanes h = go (all_found es addr lanes) (none_found es addr lanes) 
     go false true h = refl
     go false false h = absurd cc
 
-module _ (s : State) (is : IsSteady s) (bytes : AreBytes s.cache.bytes) (kind : LoadKind) (rd x : ℕ) (word : word_in_ram s.image (x / 4) ≡ true) where
+module _ (s : State) (is : IsSteady s) (kind : LoadKind) (rd x : ℕ) (word : word_in_ram s.image (x / 4) ≡ true) where
   abbrev stores : List Entry
   stores = pending s.stores
 
@@ -104,7 +104,7 @@ module _ (s : State) (is : IsSteady s) (bytes : AreBytes s.cache.bytes) (kind : 
       → word_of s.cache (wd / 4) (wd % 4) ≡ Some v → loaded_of kind x v ≡ loaded kind x (view s)
   by_read v wd way h at hit e =
       loaded-same kind x (λ p. byte_of v (p % 4)) (view s)
-      (λ p a. read-byte s.cache (ram_byte s.image s.memory) wd way v p bytes hit e (same_word kind x p a ∙ at)
+      (λ p a. read-byte s.cache (ram_byte s.image s.memory) wd way v p is.bytes.cache hit e (same_word kind x p a ∙ at)
       ∙ sym (uncovered-byte stores kind x p _ a (clear stores (x / 4) mask h))
       ∙ sym (view-inside p a))
 
@@ -135,30 +135,30 @@ module _ (s : State) (is : IsSteady s) (bytes : AreBytes s.cache.bytes) (kind : 
   by_case m Uncovered (Some v) t h e goes = by_move v m t h e
   by_case m Uncovered None t h e goes = absurd (true≢false (sym goes))
 
-load-value : (s : State) (is : IsSteady s) (bytes : AreBytes s.cache.bytes) (kind : LoadKind) (rd x : ℕ) (m : Move) (b : Bool)
+load-value : (s : State) (is : IsSteady s) (kind : LoadKind) (rd x : ℕ) (m : Move) (b : Bool)
     → Tells s.cache (load_client s.image (Loads kind rd x) (pending s.stores)) (store_client s.image (pending s.stores)) m → word_in_ram s.image (x / 4) ≡ b
     → (served_by (if b then covered_value (covered (pending s.stores) (x / 4) (lane_mask (load_size kind) x)) (word_read m s.cache) kind x
     else Some 0)).goes ≡ true
     → (served_by (if b then covered_value (covered (pending s.stores) (x / 4) (lane_mask (load_size kind) x)) (word_read m s.cache) kind x
     else Some 0)).value ≡ (if b then loaded kind x (view s) else 0)
-load-value s is bytes kind rd x m true t h goes =
-    by_case s is bytes kind rd x h m (covered (pending s.stores) (x / 4) (lane_mask (load_size kind) x)) (word_read m s.cache) t refl refl goes
-load-value s is bytes kind rd x m false t h goes = refl
+load-value s is kind rd x m true t h goes =
+    by_case s is kind rd x h m (covered (pending s.stores) (x / 4) (lane_mask (load_size kind) x)) (word_read m s.cache) t refl refl goes
+load-value s is kind rd x m false t h goes = refl
 
-pub value-by : (s : State) (is : IsSteady s) (bytes : AreBytes s.cache.bytes) (a : Action) (m : Move)
+pub value-by : (s : State) (is : IsSteady s) (a : Action) (m : Move)
     → Tells s.cache (load_client s.image a (pending s.stores)) (store_client s.image (pending s.stores)) m
     → (served s.image a (pending s.stores) (word_read m s.cache)).goes ≡ true
     → (served s.image a (pending s.stores) (word_read m s.cache)).value ≡ given s.image a (view s)
 unfolding served load_value
-value-by s is bytes Nothing m t goes = refl
-value-by s is bytes (Writes rd value) m t goes = refl
-value-by s is bytes (Loads kind rd x) m t goes = load-value s is bytes kind rd x m (word_in_ram s.image (x / 4)) t refl goes
-value-by s is bytes (Stores kind x y) m t goes = refl
-value-by s is bytes (Puts value) m t goes = refl
-value-by s is bytes (Exits value) m t goes = refl
-value-by s is bytes (Traps cause) m t goes = refl
+value-by s is Nothing m t goes = refl
+value-by s is (Writes rd value) m t goes = refl
+value-by s is (Loads kind rd x) m t goes = load-value s is kind rd x m (word_in_ram s.image (x / 4)) t refl goes
+value-by s is (Stores kind x y) m t goes = refl
+value-by s is (Puts value) m t goes = refl
+value-by s is (Exits value) m t goes = refl
+value-by s is (Traps cause) m t goes = refl
 
-pub served-value : (s : State) → IsSteady s → AreBytes s.cache.bytes → (served_m s).goes ≡ true → (served_m s).value ≡ given s.image (action_in_m s) (view s)
-served-value s is bytes goes =
-    value-by s is bytes (action_in_m s) (move s) (tells s.port s.cache (load_client s.image (action_in_m s) (pending s.stores))
+pub served-value : (s : State) → IsSteady s → (served_m s).goes ≡ true → (served_m s).value ≡ given s.image (action_in_m s) (view s)
+served-value s is goes =
+    value-by s is (action_in_m s) (move s) (tells s.port s.cache (load_client s.image (action_in_m s) (pending s.stores))
     (store_client s.image (pending s.stores))) goes

@@ -43,7 +43,7 @@ cached-same : (shape other : Shape) (ram main : ℕ → ℕ) (cache slot : Slots
     → cached shape ram cache p ≡ cached other main slot p
 cached-same shape other ram main cache slot p e f g = rw (e, f, g) refl
 
-module _ (s : State) (is : IsSteady s) (bytes : AreBytes s.cache.bytes) where
+module _ (s : State) (is : IsSteady s) where
   abbrev stores : List Entry
   stores = pending s.stores
 
@@ -113,7 +113,7 @@ module _ (s : State) (is : IsSteady s) (bytes : AreBytes s.cache.bytes) where
       go false h = rw h (stored-outside (done_in s) p h)
 
   value-given : (served_m s).goes ≡ true → (served_m s).value ≡ given s.image (action_in_m s) (view s)
-  value-given goes = served-value s is bytes goes
+  value-given goes = served-value s is goes
 
   pub memory-law : MemoryLaw s (cycle s)
   memory-law = record { coherent = coherent-kept; seen = view-kept; value = value-given }

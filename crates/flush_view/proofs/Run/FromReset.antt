@@ -14,7 +14,7 @@ use Rattle.pipe_latch.proofs.Latches.{action_of-no_executed}
 use Rattle.inst_buf.specs.Buffer.{entries, packed}
 use Rattle.cyc_machine.specs.Cycle.{cycle, cycled, end_in, fate, served_m, done_in}
 use Rattle.cyc_machine.specs.Pipeline.{fetched, register}
-use Rattle.cyc_machine.specs.Run.{IsRunning, clocks_below, issues_below, state_after, state_at}
+use Rattle.cyc_machine.specs.Run.{IsRunning, clocks_after, clocks_below, issues_after, log_after, state_after, state_at}
 use Rattle.cyc_machine.specs.State.{State, reset}
 use Rattle.flush_view.specs.Coherence.{IsCoherent}
 use Rattle.flush_view.specs.Flush.{fed}
@@ -29,14 +29,13 @@ use Rattle.flush_view.proofs.Flush.MachinePipe.{piped, piped-next, waiting-after
 use Rattle.flush_view.proofs.Flush.Pipes.{Pipe}
 use Rattle.flush_view.proofs.Run.Reset.{coherent-reset, registers-reset, view-reset}
 use Rattle.flush_view.proofs.Run.Sound.{Sound, empty-sound, sound-next}
-use Rattle.cyc_machine.proofs.Sizes.Lasting.{steady-next, bytes-next, steady-reset, bytes-reset}
-use Rattle.cyc_machine.specs.Sizes.{IsSteady, HoldsBytes}
+use Rattle.cyc_machine.proofs.Sizes.Lasting.{steady-next, steady-reset}
+use Rattle.cyc_machine.specs.Sizes.{IsSteady}
 
 -- ---- what every cycle keeps, the end of the run or not
 
 pub record Kept (s : State) : Type 0 where
   pub steady : IsSteady s
-  pub bytes : HoldsBytes s
   pub sound : Sound (piped s)
   pub in_order : s.buffer ≡ packed (entries s.buffer)
   pub coherent : IsCoherent no_line s
@@ -50,10 +49,9 @@ order-after s = ap packed (sym (waiting-after s.image (fate s) s.pc s.buffer))
 
 pub kept-next : (s : State) → Kept s → Kept (cycle s)
 kept-next s k =
-    let law : MemoryLaw s (cycle s) = memory-law s k.steady k.bytes.cache in
+    let law : MemoryLaw s (cycle s) = memory-law s k.steady in
     record {
       steady = steady-next s k.steady;
-      bytes = bytes-next s k.bytes;
       sound = sound-after s k.steady k.sound;
       in_order = order-after s;
       coherent = law.coherent no_line k.coherent;
@@ -74,7 +72,7 @@ pub followed-cycle : (trace : ℕ → Arch) (s : State) (later : List ℕ) (log 
     → Followed trace (piped s) (view s) (fed s later) log e x
     → Followed trace (piped (cycle s)) (view (cycle s)) later (logged log (done_in s)) (if (served_m s).goes then x else e) (count_after (fate s) x)
 followed-cycle trace s later log e x steps k h f =
-    let law : MemoryLaw s (cycle s) = memory-law s k.steady k.bytes.cache in
+    let law : MemoryLaw s (cycle s) = memory-law s k.steady in
     subst (λ (p : Pipe). Followed trace p (view (cycle s)) later (logged log (done_in s)) (if (served_m s).goes then x else e) (count_after (fate s) x))
     (sym (piped-next s k.steady))
     (followed-next trace (piped s) (view s) later log e x (served_m s).goes (served_m s).value (cycle s).pc (view (cycle s)) steps k.sound law.value
@@ -113,7 +111,6 @@ module _ (image : LoadedImage) (shape : Shape) (is : IsImage image) (fits : IsSh
   unfolding state_after
   kept-at zero = record {
     steady = steady-reset image shape is fits;
-    bytes = bytes-reset image shape is fits;
     sound = sound-reset image shape;
     in_order = order-reset image shape;
     coherent = coherent-reset image shape no_line;
@@ -128,7 +125,7 @@ module _ (image : LoadedImage) (shape : Shape) (is : IsImage image) (fits : IsSh
   next_by : (t : ℕ) (later clocks : List ℕ) (e x : ℕ) → clocks_below image shape (suc t) ++ later ≡ clocks → left_memory image shape (suc t) ≡ e
       → left_execute image shape (suc t) ≡ x → Followed (trace_at image clocks) (piped (cycle (at t))) (view (cycle (at t))) later
       (logged (done_below image shape t) (done_in (at t))) e x → FollowedAt (suc t) later
-  unfolding state_after done_below
+  unfolding state_after log_after
   next_by t later clocks e x c f g h = rw (c, f, g) h
 
   pub steps-at : (t : ℕ) (clocks : List ℕ) → Steps (at t).image (trace_at image clocks)
@@ -136,7 +133,7 @@ module _ (image : LoadedImage) (shape : Shape) (is : IsImage image) (fits : IsSh
       subst (λ (im : LoadedImage). Steps im (trace_at image clocks)) (sym (image-kept image shape t)) (λ i h. after-next image i (started image clocks) h)
 
   pub followed-at : (t : ℕ) → IsRunning image shape t → (later : List ℕ) → FollowedAt t later
-  unfolding state_after clocks_below done_below issues_below reset
+  unfolding state_after clocks_after log_after issues_after reset
   followed-at zero running later = followed-reset image shape later
   followed-at (suc t) running later =
       next_by t later (clocks_below image shape t ++ fed (at t) later) _ _

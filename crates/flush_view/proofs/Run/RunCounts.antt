@@ -19,7 +19,7 @@ use Rattle.cyc_machine.specs.declared.fate.Fate.TheVariants.{Absent, Dropped, St
 use Rattle.cyc_machine.specs.Cycle.{action_in_m, cycled, fate, served_m, done_in}
 use Rattle.cyc_machine.specs.Memory.{served}
 use Rattle.cyc_machine.specs.Pipeline.{counted, executed_after}
-use Rattle.cyc_machine.specs.Run.{clocks_below, cycle_if, goes, issues_below, output_below, retired_below, state_after, state_at, with_one}
+use Rattle.cyc_machine.specs.Run.{clocks_after, clocks_below, cycle_if, goes, issues_after, issues_below, log_after, output_after, output_below, retired_after, retired_below, state_after, state_at, with_one}
 use Rattle.cyc_machine.specs.State.{State, reset}
 use Rattle.rv_table.specs.Actions.{action, is_clocked}
 use Rattle.flush_view.specs.Flush.{clocks_now, fed}
@@ -86,7 +86,7 @@ clocks_by (Goes a b) s xs later = go (is_clocked (op_of_latch s.d))
     go false = refl
 
 -- a byte is put at once
-put_by : (image : LoadedImage) (m : Action) (es : List Entry) (read : Option ℕ) (xs : List ℕ)
+pub put_by : (image : LoadedImage) (m : Action) (es : List Entry) (read : Option ℕ) (xs : List ℕ)
     → with_byte xs (byte_put (if (served image m es read).goes then m else Nothing)) ≡ with_one xs (byte_put m)
 unfolding served
 put_by image Nothing es read xs = refl
@@ -117,12 +117,12 @@ module _ (image : LoadedImage) (shape : Shape) where
   image-kept (suc t) = image-kept t
 
   pub left-next : (t : ℕ) → left_execute image shape (suc t) ≡ count_after (fate (at t)) (left_execute image shape t)
-  unfolding issues_below
+  unfolding issues_after
   left-next t = left_by (fate (at t)) (at t) (issues_below image shape t)
 
   -- EX/MEM holds the one that has left EX and isn't done
   pub left-retired : (t : ℕ) → left_execute image shape t ≡ retired_below image shape t + (if (state_at image shape t).m.valid then 1 else 0)
-  unfolding state_after cycled reset issues_below retired_below
+  unfolding state_after cycled reset issues_after retired_after
   left-retired zero = refl
   left-retired (suc t) =
       left-next t
@@ -136,18 +136,18 @@ module _ (image : LoadedImage) (shape : Shape) where
 
   -- an instruction that is done
   pub memory-next : (t : ℕ) → left_memory image shape (suc t) ≡ (if (served_m (at t)).goes then left_execute image shape t else left_memory image shape t)
-  unfolding retired_below
+  unfolding retired_after
   memory-next t =
       sym (retired-left (suc t))
       ∙ done_by (at t).m.valid (served_m (at t)).goes (left_execute image shape t) (retired_below image shape t) (left_memory image shape t)
       (left-retired t) (retired-left t)
 
   pub clocks-next : (t : ℕ) (later : List ℕ) → clocks_below image shape (suc t) ++ later ≡ clocks_below image shape t ++ fed (at t) later
-  unfolding clocks_below
+  unfolding clocks_after
   clocks-next t later = clocks_by (fate (at t)) (at t) (clocks_below image shape t) later
 
   pub done-output : (t : ℕ) → (done_below image shape t).output ≡ output_below image shape t
-  unfolding done_below output_below
+  unfolding log_after output_after
   done-output zero = refl
   done-output (suc t) =
       ap (λ (xs : List ℕ). with_byte xs (byte_put (done_in (at t)))) (done-output t)

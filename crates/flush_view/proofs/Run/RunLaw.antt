@@ -16,7 +16,7 @@ use Rattle.pipe_latch.proofs.Latches.{action_of-invalid}
 use Rattle.store_buf.specs.Entry.{Entry}
 use Rattle.cyc_machine.specs.Cycle.{action_in_m, cycle, end_in, retires, served_m}
 use Rattle.cyc_machine.specs.Memory.{served}
-use Rattle.cyc_machine.specs.Run.{IsRunning, clocks_below, output_below, retired_below, state_after, state_at, with_one}
+use Rattle.cyc_machine.specs.Run.{IsRunning, clocks_below, output_after, output_below, retired_after, retired_below, state_after, state_at, with_one}
 use Rattle.cyc_machine.specs.State.{State}
 use Rattle.flush_view.specs.Flush.{fed}
 use Rattle.flush_view.specs.Positions.{done_below, left_execute, left_memory}
@@ -68,14 +68,14 @@ module _ (image : LoadedImage) (shape : Shape) (is : IsImage image) (fits : IsSh
   at t = state_at image shape t
 
   retired-end : (t : ℕ) (end : End) → end_in (at t) ≡ Some end → retired_below image shape (suc t) ≡ left_execute image shape t
-  unfolding retired_below
+  unfolding retired_after
   retired-end t end h =
       one-more (at t).m.valid (served_m (at t)).goes (retired_below image shape t) (left_execute image shape t) (occupied-end (at t).m end h)
       (served-end (at t).image (action_in_m (at t)) _ _ end h)
       (left-retired image shape t)
 
   output-end : (t : ℕ) → with_byte (done_below image shape t).output (byte_put (action_in_m (at t))) ≡ output_below image shape (suc t)
-  unfolding output_below
+  unfolding output_after
   output-end t =
       ap (λ (xs : List ℕ). with_byte xs (byte_put (action_in_m (at t)))) (done-output image shape t)
       ∙ same_put (output_below image shape t) (byte_put (action_in_m (at t)))
@@ -118,7 +118,7 @@ module _ (image : LoadedImage) (shape : Shape) (is : IsImage image) (fits : IsSh
   no_fewer false n = omega arith
 
   retired-more : (k t u : ℕ) → u ≡ k + t → retired_below image shape t ≤ retired_below image shape u
-  unfolding retired_below
+  unfolding retired_after
   retired-more zero t u e =
       let same : retired_below image shape t ≡ retired_below image shape u = ap (retired_below image shape) (omega arith) in omega (arith, same)
   retired-more (suc k) t zero e = absurd (omega arith)
@@ -128,7 +128,7 @@ module _ (image : LoadedImage) (shape : Shape) (is : IsImage image) (fits : IsSh
       omega (arith, before, one)
 
   retired-now : (u : ℕ) → retires (at u) ≡ true → retired_below image shape (suc u) ≡ retired_below image shape u + 1
-  unfolding retired_below
+  unfolding retired_after
   retired-now u h = rw h refl
 
   soon : (t u : ℕ) → u ≡ t + 256 → retired_below image shape t + 1 ≤ retired_below image shape u

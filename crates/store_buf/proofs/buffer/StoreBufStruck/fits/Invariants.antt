@@ -1,6 +1,6 @@
 use Rattle.std.proofs.Common.{ℕ, ◌<◌, get_or}
 use Rattle.store_buf.specs.Entry.{Entry}
-use Rattle.store_buf.specs.Bits as bits
+use Rattle.store_buf.specs.BufferBits as bits
 use Rattle.store_buf.proofs.buffer.StoreBufStruck.fits.Given as goal
 
 abbrev pub invariant-loop-slot : goal.invariant-loop-slot

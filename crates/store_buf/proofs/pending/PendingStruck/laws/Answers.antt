@@ -1,4 +1,4 @@
-use Rattle.store_buf.proofs.FlipLaws.{entry_laws}
+use Rattle.store_buf.proofs.BufferLaws.{entry_laws}
 use Rattle.store_buf.proofs.pending.PendingStruck.laws.Goals as goal
 
 pub returns : goal.returns

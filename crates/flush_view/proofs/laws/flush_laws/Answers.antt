@@ -1,0 +1,5 @@
+use Rattle.flush_view.proofs.Flush.AfterLog.{flush-parts}
+use Rattle.flush_view.proofs.laws.flush_laws.Goals as goal
+
+pub returns : goal.returns
+returns c = record { parts = flush-parts }
