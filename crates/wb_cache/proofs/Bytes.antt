@@ -1,18 +1,9 @@
 -- The bytes of slots and of main memory are below 256.
-use Rattle.std.proofs.Common.{◌⊎◌, inl, inr, ℕ, ◌+◌, ◌-◌, ◌*◌, ◌<◌, ◌≤◌, Bool, true, false, cond, List, length, lit<, sym, subst}
-use Rattle.std.specs.Prelude.{◌^◌, ◌&&◌, nat_lt, slice_index}
-use Rattle.std.proofs.lemmas.Bool.{cases_lt}
-use Rattle.std.proofs.Math.ListN.{get_or-eq_default}
-use Rattle.std.proofs.lemmas.List.Elements.{All-get_or}
+use Rattle.std.proofs.Common.{ℕ, ◌+◌, ◌-◌, ◌*◌, ◌<◌, Bool, true, false, cond, List, lit<}
+use Rattle.std.specs.Prelude.{◌&&◌, nat_lt, slice_index}
 use Rattle.elf_load.specs.Image.{LoadedImage, in_ram, ram_byte}
+use Rattle.elf_load.proofs.ByteLists.{index-below}
 use Rattle.wb_cache.specs.Contents.{AreBytes, Contents, no_slot, slot_at, slot_of, slots}
-
-pub index-below : (xs : List ℕ) (i : ℕ) → AreBytes xs → slice_index xs i < 256
-index-below xs i all = go (cases_lt i (length xs))
-  where
-    go : (i < length xs) ⊎ (length xs ≤ i) → slice_index xs i < 256
-    go (inl l) = All-get_or (λ b. b < 2 ^ 8) xs i 0 l all
-    go (inr m) = subst (λ n. n < 256) (sym (get_or-eq_default xs 0 m)) (lit< tt)
 
 pub slot_byte-below : (c : Contents) (set way o : ℕ) → AreBytes c.bytes → (slots c set way).bytes o < 256
 unfolding slots slot_at
