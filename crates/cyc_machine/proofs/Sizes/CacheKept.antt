@@ -14,10 +14,9 @@ use Rattle.store_buf.specs.Pending.{pending}
 use Rattle.store_buf.specs.declared.cover.Cover.{Cover}
 use Rattle.store_buf.specs.declared.cover.Cover.TheVariants.{Full, Part, None as Uncovered}
 use Rattle.wb_cache.specs.Access.{found}
-use Rattle.wb_cache.specs.Contents.{Contents, IsContents, IsSized}
+use Rattle.wb_cache.specs.Contents.{Contents, IsContents, IsSized, AreBytes}
 use Rattle.wb_cache.proofs.Calls.{length-after_refill}
-use Rattle.wb_cache.proofs.Kept.{AreBytes, bytes-after_read, bytes-after_refill, bytes-after_write}
-use Rattle.wb_cache.proofs.Kept.{contents-after_read, contents-after_refill, contents-after_write, memory-bytes-after_refill, sized-after_read, sized-after_refill, sized-after_write}
+use Rattle.wb_cache.proofs.Kept.{bytes-after_read, bytes-after_refill, bytes-after_write, contents-after_read, contents-after_refill, contents-after_write, memory-bytes-after_refill, sized-after_read, sized-after_refill, sized-after_write}
 use Rattle.cyc_machine.specs.declared.port.Move.{Move}
 use Rattle.cyc_machine.specs.declared.port.Move.TheVariants.{Rests, Reads, Drains, Misses, Waits, Leaves, Fills}
 use Rattle.cyc_machine.specs.Cycle.{action_in_m, cycle, cycled, move}

@@ -54,6 +54,13 @@ pub holds-one : (shape : Shape) (line other : ℕ) (slot : Slot) → set_of shap
     → holds shape other slot ≡ true → line ≡ other
 holds-one shape line other slot s h k = same_line shape line other s (sym (holds-tag shape line slot h) ∙ holds-tag shape other slot k)
 
+pub holds-valid : (shape : Shape) (line : ℕ) (slot : Slot) → holds shape line slot ≡ true → slot.valid ≡ true
+holds-valid shape line slot h = grind (arith, nat_tests)
+
+-- a slot that was found is valid
+pub found-valid : (shape : Shape) (cache : Slots) (line w : ℕ) → way_of shape cache line ≡ Some w → (cache (set_of shape line) w).valid ≡ true
+found-valid shape cache line w h = holds-valid shape line (cache (set_of shape line) w) (way-some shape cache line w h).1
+
 -- a slot of the changed cache is the new one, or the old one of another place
 pub data Place (set way : ℕ) (slot : Slot) (cache : Slots) (s w : ℕ) : Type 0 where
   Here : s ≡ set → w ≡ way → put_slot set way slot cache s w ≡ slot → Place set way slot cache s w

@@ -1,62 +1,20 @@
 //! Files by hand, with what they mean by the ELF specification and the written reasons to refuse.
-use crate::{LoadError, load, segments};
-use std::alloc::{AllocError, Global};
+use elf_fixture::{Header, Segment, THREE, bytes_of, file, flat, segmented};
+use elf_load::{LoadError, load, segments};
 use std::test::Fail;
 
 const MIB: u32 = 1_048_576;
 
-/// The words 00700513, 05D00893, 00000073 at 0x10000.
-const WORDS: [u8; 12] = [
-    0x13, 0x05, 0x70, 0x00, 0x93, 0x08, 0xD0, 0x05, 0x73, 0x00, 0x00, 0x00,
-];
-
-/// The fields of a program header but its physical address and alignment: type, offset, address, size in the file,
-/// size in memory, flags.
-type Header = [u32; 6];
-
-fn put(file: &mut Vec<u8>, words: &[u32]) -> Result<(), AllocError> {
-    for word in words {
-        file.extend_from_slice(&word.to_le_bytes())?;
+/// A loadable program header: its offset, its address, its sizes in the file and in memory, and its flags.
+fn loadable(offset: u32, address: u32, file_size: u32, memory_size: u32, flags: u32) -> Header {
+    Header {
+        kind: 1,
+        offset,
+        address,
+        file_size,
+        memory_size,
+        flags,
     }
-    Ok(())
-}
-
-/// A file of an entry at 0x10000, these headers and these bytes.
-fn file(
-    alloc: Global,
-    number: u8,
-    headers: &[Header],
-    bytes: &[u8],
-) -> Result<Vec<u8>, AllocError> {
-    let mut file = [0x7F, 0x45, 0x4C, 0x46, 1, 1, 1, 0, 0, 0, 0, 0, 0, 0, 0, 0].to_vec(alloc)?;
-    put(
-        &mut file,
-        &[
-            0x00F3_0002,
-            1,
-            0x10000,
-            52,
-            0,
-            0,
-            0x0020_0034,
-            u32::from(number),
-            0,
-        ],
-    )?;
-    for header in headers {
-        let [kind, offset, vaddr, filesz, memsz, flags] = *header;
-        put(
-            &mut file,
-            &[kind, offset, vaddr, vaddr, filesz, memsz, flags, 4],
-        )?;
-    }
-    file.extend_from_slice(bytes)?;
-    Ok(file)
-}
-
-/// `three.elf`: one executable segment at 0x10000.
-fn three(alloc: Global) -> Result<Vec<u8>, AllocError> {
-    file(alloc, 1, &[[1, 84, 0x10000, 12, 12, 5]], &WORDS)
 }
 
 #[test]
@@ -80,7 +38,7 @@ fn refuses_by_the_first_reason(rt: HostRuntime) -> Result<(), Fail> {
         (24, 2, 12),
     ];
     for (at, value, reason) in rows {
-        let mut changed = three(alloc)?;
+        let mut changed = flat(alloc, &THREE)?;
         if let Some(byte) = changed.get_mut(at) {
             *byte = value;
         }
@@ -100,7 +58,7 @@ fn refuses_by_the_first_reason(rt: HostRuntime) -> Result<(), Fail> {
 #[test]
 fn refuses_a_short_file(rt: HostRuntime) -> Result<(), Fail> {
     let alloc = rt.alloc();
-    let whole = three(alloc)?;
+    let whole = flat(alloc, &THREE)?;
     for (length, reason) in [(0, 1), (51, 1), (52, 8), (83, 8), (84, 10), (95, 10)] {
         let cut = whole.get(..length).ok_or("cut")?;
         assert_eq!(rt;
@@ -115,14 +73,16 @@ fn refuses_a_short_file(rt: HostRuntime) -> Result<(), Fail> {
 #[test]
 fn loads_one_segment(rt: HostRuntime) -> Result<(), Fail> {
     let alloc = rt.alloc();
-    let image = load(alloc, &three(alloc)?, MIB)?;
+    let image = load(alloc, &flat(alloc, &THREE)?, MIB)?;
     assert_eq!(rt;
         (image.base(), image.entry(), image.ram().len()),
         (0x10000, 0x10000, 0x10_0000)
     );
     assert_eq!(rt;
         image.ram().get(..14).ok_or("short")?,
-        [WORDS.as_slice(), &[0, 0]].concat(alloc)?.as_slice()
+        [bytes_of(alloc, &THREE)?.as_slice(), &[0, 0]]
+            .concat(alloc)?
+            .as_slice()
     );
     assert_eq!(rt; image.fetch(0x4001), Some(0x05D0_0893));
     assert_eq!(rt; image.fetch(0x4003), None);
@@ -132,13 +92,22 @@ fn loads_one_segment(rt: HostRuntime) -> Result<(), Fail> {
 #[test]
 fn loads_segments_in_order(rt: HostRuntime) -> Result<(), Fail> {
     let alloc = rt.alloc();
+    // a header of a type that the loader passes over
+    let attributes = Header {
+        kind: 0x7000_0003,
+        offset: 0,
+        address: 0,
+        file_size: 9,
+        memory_size: 0,
+        flags: 4,
+    };
     let headers = [
-        [1, 160, 0x11002, 3, 8, 6],
-        [0x7000_0003, 0, 0, 9, 0, 4],
-        [1, 148, 0x10000, 12, 12, 5],
+        loadable(160, 0x11002, 3, 8, 6),
+        attributes,
+        loadable(148, 0x10000, 12, 12, 5),
     ];
-    let bytes = [WORDS.as_slice(), &[0xAA, 0xBB, 0xCC]].concat(alloc)?;
-    let file = file(alloc, 3, &headers, &bytes)?;
+    let bytes = [bytes_of(alloc, &THREE)?.as_slice(), &[0xAA, 0xBB, 0xCC]].concat(alloc)?;
+    let file = file(alloc, &headers, &bytes)?;
 
     let lent = segments(alloc, &file, MIB)?;
     let shapes = lent
@@ -185,24 +154,56 @@ fn takes_segments_side_by_side_and_no_overlap(rt: HostRuntime) -> Result<(), Fai
     let alloc = rt.alloc();
     let beside = file(
         alloc,
-        2,
-        &[[1, 118, 0x10002, 10, 10, 5], [1, 116, 0x10000, 2, 2, 5]],
-        &WORDS,
+        &[
+            loadable(118, 0x10002, 10, 10, 5),
+            loadable(116, 0x10000, 2, 2, 5),
+        ],
+        &bytes_of(alloc, &THREE)?,
     )?;
     assert_eq!(rt; load(alloc, &beside, MIB)?.fetch(0x4000), Some(0x0070_0513));
     let twice = file(
         alloc,
-        2,
-        &[[1, 116, 0x10000, 12, 12, 5], [1, 116, 0x10000, 12, 12, 5]],
-        &WORDS,
+        &[
+            loadable(116, 0x10000, 12, 12, 5),
+            loadable(116, 0x10000, 12, 12, 5),
+        ],
+        &bytes_of(alloc, &THREE)?,
     )?;
     assert_eq!(rt; load(alloc, &twice, MIB).err(), Some(LoadError::Bad(11)));
     let one_byte = file(
         alloc,
-        2,
-        &[[1, 116, 0x1000B, 1, 1, 6], [1, 116, 0x10000, 12, 12, 5]],
-        &WORDS,
+        &[
+            loadable(116, 0x1000B, 1, 1, 6),
+            loadable(116, 0x10000, 12, 12, 5),
+        ],
+        &bytes_of(alloc, &THREE)?,
     )?;
     assert_eq!(rt; load(alloc, &one_byte, MIB).err(), Some(LoadError::Bad(11)));
+    Ok(())
+}
+
+#[test]
+fn loads_segments_laid_out(rt: HostRuntime) -> Result<(), Fail> {
+    let alloc = rt.alloc();
+    let words = bytes_of(alloc, &THREE)?;
+    let code = Segment {
+        kind: 1,
+        address: 0x10000,
+        flags: 5,
+        bytes: &words,
+    };
+    let constants = Segment {
+        kind: 1,
+        address: 0x20000,
+        flags: 4,
+        bytes: &[0xAA, 0xBB, 0xCC],
+    };
+    let image = load(alloc, &segmented(alloc, &[code, constants])?, MIB)?;
+    assert_eq!(rt; image.fetch(0x4002), Some(0x73));
+    assert_eq!(rt;
+        image.ram().get(0x1_0000..0x1_0004).ok_or("short")?,
+        [0xAA, 0xBB, 0xCC, 0].as_slice()
+    );
+    assert_eq!(rt; image.executable(0x20000), false);
     Ok(())
 }
