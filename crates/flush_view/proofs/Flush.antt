@@ -14,3 +14,5 @@ pub mod Masked
 pub mod Avoiding
 pub mod FlushLaw
 pub mod AfterLog
+pub mod ToCome
+pub mod Ranges
