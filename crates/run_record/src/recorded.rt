@@ -90,18 +90,18 @@ impl<'i> Recorded<'i> {
         self.instructions
     }
 
-    /// The bytes that the program put.
-    pub fn output(&self) -> &[u8]
-        ensures { result.now ≡ self.now.output }
-    {
-        &self.output
-    }
-
     /// How the run ended.
     pub fn end(&self) -> End
         ensures { result ≡ self.now.end }
     {
         self.end
+    }
+
+    /// The bytes that the program put.
+    pub fn output(&self) -> &[u8]
+        ensures { result.now ≡ self.now.output }
+    {
+        &self.output
     }
 
     /// The events of the cache, in order of cycles.

@@ -1,11 +1,15 @@
 -- The code of a word, by its opcode.
-use Rattle.std.proofs.Common.{◌≡◌, ℕ, ◌%◌, ◌≢◌, ◌==◌, ◌&&◌, false, cond, List, [], ◌∷◌, arith, ap, ◌∙◌, refl}
+use Rattle.std.proofs.Common.{◌≡◌, ℕ, ◌%◌, ◌≢◌, ◌==◌, ◌&&◌, Bool, true, false, cond, List, [], ◌∷◌, arith, ap, ◌∙◌, refl}
 use Rattle.std.proofs.lemmas.Bool.{ne_eqb}
 use Rattle.std.proofs.lemmas.Bool.Decides.{nat_tests}
-use Rattle.rv_table.specs.Codes.{code_by, code_of, first_by, first_code, matches_by}
-use Rattle.rv_table.specs.Words.{Pattern, Opcode, Funct3, Funct7, Word, WordButRd, Row, rows, matches, opcode_of, funct3_of, funct7_of}
+use Rattle.rv_table.specs.Codes.{code_by, code_of, first_by, matches_by}
+use Rattle.rv_table.specs.Rows.{Row, rows}
+use Rattle.rv_table.specs.Words.{matches, opcode_of, funct3_of, funct7_of, row_matching, row_of_word}
+use Rattle.rv_table.specs.declared.row.Pattern.{Pattern}
+use Rattle.rv_table.specs.declared.row.Pattern.TheVariants.{NoWord, Opcode, Funct3, Funct7, Word, WordButRd}
 
 matches-by : (p : Pattern) (w : ℕ) → matches p w ≡ matches_by p (opcode_of w) (funct3_of w) (funct7_of w) w
+matches-by NoWord w = refl
 matches-by (Opcode o) w = refl
 matches-by (Funct3 o f) w = refl
 matches-by (Funct7 o f g) w = refl
@@ -15,15 +19,20 @@ matches-by (Word word) w = word_test w word
     word_test w word = grind (arith, nat_tests)
 matches-by (WordButRd word) w = grind (arith, nat_tests)
 
-first_code-by : (rs : List Row) (w : ℕ) → first_code rs w ≡ first_by rs (opcode_of w) (funct3_of w) (funct7_of w) w
-first_code-by [] w = refl
-first_code-by (r ∷ rs) w =
-    ap (λ t. cond t r.code (first_code rs w)) (matches-by r.fixed w)
-    ∙ ap (λ n. cond (matches_by r.fixed (opcode_of w) (funct3_of w) (funct7_of w) w) r.code n) (first_code-by rs w)
+code-choice : (t : Bool) (r rest : Row) → (cond t r rest).code ≡ cond t r.code rest.code
+code-choice true r rest = refl
+code-choice false r rest = refl
+
+matching-by : (rs : List Row) (w : ℕ) → (row_matching rs w).code ≡ first_by rs (opcode_of w) (funct3_of w) (funct7_of w) w
+matching-by [] w = refl
+matching-by (r ∷ rs) w =
+    code-choice (matches r.fixed w) r (row_matching rs w)
+    ∙ ap (λ t. cond t r.code (row_matching rs w).code) (matches-by r.fixed w)
+    ∙ ap (λ n. cond (matches_by r.fixed (opcode_of w) (funct3_of w) (funct7_of w) w) r.code n) (matching-by rs w)
 
 pub code_of-by : (w opcode : ℕ) → opcode_of w ≡ opcode → code_of w ≡ code_by opcode (funct3_of w) (funct7_of w) w
-unfolding code_of code_by
-code_of-by w opcode h = first_code-by rows w ∙ ap (λ o. first_by rows o (funct3_of w) (funct7_of w) w) h
+unfolding code_of code_by row_of_word
+code_of-by w opcode h = matching-by rows w ∙ ap (λ o. first_by rows o (funct3_of w) (funct7_of w) w) h
 
 pub code_of-lui : (w : ℕ) → w % 128 ≡ 55 → code_of w ≡ 2
 unfolding code_by

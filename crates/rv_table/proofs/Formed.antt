@@ -1,15 +1,16 @@
 -- Each operation that a word has is well-formed.
-use Rattle.std.proofs.Common.{◌≡◌, ℕ, ◌+◌, ◌*◌, ◌/◌, ◌%◌, ◌^◌, ◌<◌, ◌==◌, ◌&&◌, ◌⊎◌, inl, inr, Bool, true, false, cond, IsTrue, List, [], ◌∷◌, arith, ap, sym, ◌∙◌, refl, subst}
-use Rattle.std.proofs.lemmas.Bool.{eq-eqb, eqb-true, eqb-false, and_from}
+use Rattle.std.proofs.Common.{◌≡◌, ℕ, ◌+◌, ◌*◌, ◌/◌, ◌%◌, ◌^◌, ◌<◌, ◌==◌, ◌&&◌, ◌||◌, ◌⊎◌, inl, inr, Bool, true, IsTrue, arith, ap, sym, ◌∙◌, refl, subst}
+use Rattle.std.proofs.lemmas.Bool.{eq-eqb, and_from}
 use Rattle.std.proofs.lemmas.Bool.Decides.{nat_tests}
-use Rattle.rv_table.proofs.Rows.{well_formed-row, well_formed-illegal}
+use Rattle.rv_table.proofs.RowLookups.{row_of-word, worded}
 use Rattle.rv_table.proofs.WordTable.{decoded, decode-code, decode-rd, decode-rs1, decode-rs2, form_code}
-use Rattle.rv_table.specs.Codes.{code_of, first_code, form_of, has_row, has_row_in}
+use Rattle.rv_table.specs.Codes.{code_of}
+use Rattle.rv_table.specs.Operations.{form_of, has_row}
+use Rattle.rv_table.specs.Rows.{has_word, row_of}
 use Rattle.rv_table.specs.WellFormed.{fits, is_register, is_signed, well_formed}
-use Rattle.rv_table.specs.Words.{Row, rows, decode, matches, op_of_form, sign_extended}
+use Rattle.rv_table.specs.Words.{decode, op_of_form, row_of_word, sign_extended}
 use Rattle.rv_table.specs.declared.form.Form.{Form}
 use Rattle.rv_table.specs.declared.form.Form.TheVariants.{U, J, I, B, S, Shift, R, Call, Counter, NoFields}
-use Rattle.rv_table.specs.declared.op.Op.{Op}
 
 signed_12 : (v : ℕ) → v < 2 ^ 12 → is_signed 12 (sign_extended 12 v) ≡ true
 signed_12 v h = grind (arith, nat_tests)
@@ -53,42 +54,26 @@ form_fits Call code w h = refl
 form_fits Counter code w h = grind (arith, nat_tests)
 form_fits NoFields code w h = refl
 
--- a code that comes from a row has a row
-coded_by : (t : Bool) (r : Row) (rs : List Row) (rest : ℕ) → (rest ≡ 0) ⊎ (has_row_in rs rest ≡ true) → (cond t r.code rest ≡ 0) ⊎ (has_row_in (r ∷ rs) (cond t r.code rest) ≡ true)
-coded_by true r rs rest h = inr (ap (λ t. cond t true (has_row_in rs r.code)) (eq-eqb r.code r.code refl))
-coded_by false r rs rest (inl h) = inl h
-coded_by false r rs rest (inr h) = inr (kept (rest == r.code) (has_row_in rs rest) h)
-  where
-    kept : (t has : Bool) → has ≡ true → cond t true has ≡ true
-    kept true has e = refl
-    kept false has e = e
-
-coded : (rs : List Row) (w : ℕ) → (first_code rs w ≡ 0) ⊎ (has_row_in rs (first_code rs w) ≡ true)
-coded [] w = inl refl
-coded (r ∷ rs) w = coded_by (matches r.fixed w) r rs (first_code rs w) (coded rs w)
-
+-- a code that comes from a word has words
 code_of-coded : (w : ℕ) → (code_of w ≡ 0) ⊎ (has_row (code_of w) ≡ true)
 unfolding code_of has_row
-code_of-coded w = coded rows w
+code_of-coded w = go (worded w)
+  where
+    go : ((row_of_word w).code ≡ 0) ⊎ (has_word (row_of_word w).fixed ≡ true) → ((row_of_word w).code ≡ 0) ⊎ (has_word (row_of (row_of_word w).code).fixed ≡ true)
+    go (inl e) = inl e
+    go (inr h) = inr (ap (λ r. has_word r.fixed) (row_of-word w) ∙ h)
 
-illegal_form : form_of 0 ≡ NoFields
-unfolding form_of
-illegal_form = refl
-
-formed_by : (t : Bool) (op : Op) → (op.code == 0) ≡ t → (op.code ≡ 0) ⊎ (has_row op.code ≡ true) → fits (form_of op.code) op ≡ true → well_formed op ≡ true
-formed_by true op e h k =
-    let form : form_of op.code ≡ NoFields = ap form_of (eqb-true _ _ e) ∙ illegal_form in
-    well_formed-illegal op e ∙ ap (λ f. fits f op) (sym form) ∙ k
-formed_by false op e (inl h) k = absurd (eqb-false _ _ e h)
-formed_by false op e (inr h) k = well_formed-row op e ∙ and_from _ _ h k
+worded_test : (code : ℕ) → (code ≡ 0) ⊎ (has_row code ≡ true) → (code == 0 || has_row code) ≡ true
+worded_test code (inl e) = rw e refl
+worded_test code (inr h) = rw h (grind (arith, nat_tests))
 
 formed : (form : Form) (code w : ℕ) → form_of code ≡ form → (code ≡ 0) ⊎ (has_row code ≡ true) → w < 2 ^ 32 → well_formed (op_of_form form code w) ≡ true
+unfolding well_formed
 formed form code w e h k =
     let same : (op_of_form form code w).code ≡ code = form_code form code w in
-    let coded : ((op_of_form form code w).code ≡ 0) ⊎ (has_row (op_of_form form code w).code ≡ true) = subst (λ (c : ℕ). (c ≡ 0) ⊎ (has_row c ≡ true)) (sym same) h in
+    let coded = subst (λ (c : ℕ). (c ≡ 0) ⊎ (has_row c ≡ true)) (sym same) h in
     let formed : form_of (op_of_form form code w).code ≡ form = ap form_of same ∙ e in
-    formed_by ((op_of_form form code w).code == 0) (op_of_form form code w) refl coded
-    (ap (λ f. fits f (op_of_form form code w)) formed ∙ form_fits form code w k)
+    and_from _ _ (worded_test (op_of_form form code w).code coded) (ap (λ f. fits f (op_of_form form code w)) formed ∙ form_fits form code w k)
 
 pub decode-well_formed : (w : ℕ) → w < 2 ^ 32 → IsTrue (well_formed (decode w))
 decode-well_formed w h =

@@ -4,7 +4,8 @@ use Rattle.std.proofs.lemmas.Bool.{ltb-true, eqb-true}
 use Rattle.rv_table.proofs.Codes.{code_of-by}
 use Rattle.rv_table.proofs.Fields.{HasFields, fields_of, extended_12, extended_13, extended_21}
 use Rattle.rv_table.proofs.WordTable.{decoded}
-use Rattle.rv_table.specs.Codes.{code_by, code_of, field_bits, form_of}
+use Rattle.rv_table.specs.Codes.{code_by, code_of, field_bits}
+use Rattle.rv_table.specs.Operations.{form_of}
 use Rattle.rv_table.specs.Words.{decode, op_of_form, funct3_of, funct7_of, sign_extended, immediate_b, immediate_i, immediate_j, immediate_s, immediate_u}
 use Rattle.rv_table.specs.WellFormed.{fits, is_signed}
 use Rattle.rv_table.specs.declared.form.Form.{Form}

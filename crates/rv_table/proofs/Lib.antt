@@ -8,8 +8,9 @@ pub mod Judged
 pub mod Lanes
 pub mod Lawful
 pub mod Loads
-pub mod Rows
+pub mod RowLookups
 pub mod Signed
 pub mod Spelled
 pub mod Stores
+pub mod TableLaws
 pub mod WordTable

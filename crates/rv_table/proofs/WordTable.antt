@@ -1,58 +1,27 @@
 -- Decoding in two steps, first the code and then the fields of its form, gives the row of the word.
-use Rattle.std.proofs.Common.{◌≡◌, ℕ, Bool, true, false, cond, List, [], ◌∷◌, ap, refl, ◌<◌, lit<, subst, arith}
-use Rattle.rv_table.specs.Codes.{code_of, first_code, form_of}
-use Rattle.rv_table.specs.Words.{Row, rows, decode, first_match, matches, op_of_form, illegal}
+use Rattle.std.proofs.Common.{◌≡◌, ℕ, ap, refl, ◌<◌, subst, arith}
+use Rattle.std.proofs.lemmas.Bool.Decides.{nat_tests}
+use Rattle.std.specs.Prelude.{nat_lt, true}
+use Rattle.rv_table.proofs.RowLookups.{each_row, row_of-word}
+use Rattle.rv_table.specs.Codes.{code_of}
+use Rattle.rv_table.specs.Operations.{form_of}
+use Rattle.rv_table.specs.Rows.{row_of}
+use Rattle.rv_table.specs.Words.{decode, op_of_form, illegal, row_of_word}
 use Rattle.rv_table.specs.declared.op.Op.{Op}
 use Rattle.rv_table.specs.declared.form.Form.{Form}
 
--- each row has the form of its code
-AllFormed : List Row → Type 0
-AllFormed [] = Unit {0}
-AllFormed (r ∷ rs) = (form_of r.code ≡ r.form) × AllFormed rs
-
-rows_formed : AllFormed rows
-unfolding form_of AllFormed
-rows_formed = (refl, (refl, (refl, (refl, (refl, (refl, (refl, (refl, (refl, (refl, (refl, (refl, (refl, (refl, (refl, (refl, (refl, (refl, (refl, (refl, (refl, (refl, (refl, (refl, (refl, (refl, (refl, (refl, (refl, (refl, (refl, (refl, (refl, (refl, (refl, (refl, (refl, (refl, (refl, (refl, (refl, (refl, (refl, (refl, (refl, (refl, (refl, (refl, (refl, (refl, (refl, (refl, tt))))))))))))))))))))))))))))))))))))))))))))))))))))
-
-by_code : ℕ → ℕ → Op
-by_code w code = op_of_form (form_of code) code w
-
-decoded_by : (t : Bool) (r : Row) (w rest : ℕ) (op : Op) → form_of r.code ≡ r.form → by_code w rest ≡ op → by_code w (cond t r.code rest) ≡ cond t (op_of_form r.form r.code w) op
-unfolding by_code
-decoded_by true r w rest op h e = ap (λ form. op_of_form form r.code w) h
-decoded_by false r w rest op h e = e
-
-decoded_in : (rs : List Row) (w : ℕ) → AllFormed rs → by_code w (first_code rs w) ≡ first_match rs w
-unfolding AllFormed by_code form_of
-decoded_in [] w h = refl
-decoded_in (r ∷ rs) w h = decoded_by (matches r.fixed w) r w (first_code rs w) (first_match rs w) h.0 (decoded_in rs w h.1)
-
 pub decoded : (w : ℕ) → op_of_form (form_of (code_of w)) (code_of w) w ≡ decode w
-unfolding code_of decode by_code
-decoded w = decoded_in rows w rows_formed
+unfolding code_of decode form_of
+decoded w = ap (λ r. op_of_form r.form (row_of_word w).code w) (row_of-word w)
 
 -- ---- the widths of the fields
 
-code_in : (t : Bool) (m n : ℕ) → m < 64 → n < 64 → cond t m n < 64
-code_in true m n h k = h
-code_in false m n h k = k
-
-AllCoded : List Row → Type 0
-AllCoded [] = Unit {0}
-AllCoded (r ∷ rs) = (r.code < 64) × AllCoded rs
-
-rows_coded : AllCoded rows
-unfolding AllCoded
-rows_coded = (lit< tt, (lit< tt, (lit< tt, (lit< tt, (lit< tt, (lit< tt, (lit< tt, (lit< tt, (lit< tt, (lit< tt, (lit< tt, (lit< tt, (lit< tt, (lit< tt, (lit< tt, (lit< tt, (lit< tt, (lit< tt, (lit< tt, (lit< tt, (lit< tt, (lit< tt, (lit< tt, (lit< tt, (lit< tt, (lit< tt, (lit< tt, (lit< tt, (lit< tt, (lit< tt, (lit< tt, (lit< tt, (lit< tt, (lit< tt, (lit< tt, (lit< tt, (lit< tt, (lit< tt, (lit< tt, (lit< tt, (lit< tt, (lit< tt, (lit< tt, (lit< tt, (lit< tt, (lit< tt, (lit< tt, (lit< tt, (lit< tt, (lit< tt, (lit< tt, (lit< tt, tt))))))))))))))))))))))))))))))))))))))))))))))))))))
-
-first_code-below : (rs : List Row) (w : ℕ) → AllCoded rs → first_code rs w < 64
-unfolding AllCoded
-first_code-below [] w h = lit< tt
-first_code-below (r ∷ rs) w h = code_in (matches r.fixed w) r.code (first_code rs w) h.0 (first_code-below rs w h.1)
-
 code_of-below : (w : ℕ) → code_of w < 64
 unfolding code_of
-code_of-below w = first_code-below rows w rows_coded
+code_of-below w =
+    let test : nat_lt (row_of (row_of_word w).code).code 64 ≡ true = each_row (λ r. nat_lt r.code 64) refl (row_of_word w).code in
+    let same : (row_of (row_of_word w).code).code ≡ (row_of_word w).code = ap (λ r. r.code) (row_of-word w) in
+    grind (arith, nat_tests)
 
 pub form_code : (form : Form) (code w : ℕ) → (op_of_form form code w).code ≡ code
 form_code form code w = grind arith
@@ -81,5 +50,5 @@ pub decode-rs2 : (w : ℕ) → (decode w).rs2 < 32
 decode-rs2 w = let P : Op → Type 0 = λ op. op.rs2 < 32 in subst P (decoded w) (form_rs2 (form_of (code_of w)) (code_of w) w)
 
 pub decode-zero : decode 0 ≡ illegal
-unfolding decode
+unfolding decode row_of_word
 decode-zero = refl

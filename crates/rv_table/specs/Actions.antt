@@ -12,6 +12,8 @@ use Rattle.rv_table.specs.declared.operation.BranchKind.TheVariants.{Beq, Bne, B
 use Rattle.rv_table.specs.declared.operation.LoadKind.{LoadKind}
 use Rattle.rv_table.specs.declared.operation.StoreKind.{StoreKind}
 use Rattle.rv_table.specs.declared.operation.CounterKind.TheVariants.{Cycle, Instret, Cycleh, Instreth}
+use Rattle.rv_table.specs.declared.trap.TheConstants.{FETCH_FAULT, MISALIGNED_TARGET, ILLEGAL_INSTRUCTION, MISALIGNED_ACCESS, LOAD_FAULT}
+use Rattle.rv_table.specs.declared.trap.TheConstants.{STORE_FAULT, BREAKPOINT, UNKNOWN_CALL}
 use Rattle.rv_table.specs.declared.action.Access.{Access}
 use Rattle.rv_table.specs.declared.action.Action.{Action}
 use Rattle.rv_table.specs.declared.action.Action.TheVariants.{Writes, Loads, Stores, Puts, Exits, Traps}
@@ -74,27 +76,27 @@ misses_target o op pc a b = taken_by o a b && not (is_aligned 4 (target_by o op 
 
 -- what a system call does: 1 puts a byte, 93 ends
 abbrev pub called : ℕ → ℕ → Action
-called a b = if a == 1 then Puts b else (if a == 93 then Exits b else Traps 8)
+called a b = if a == 1 then Puts b else (if a == 93 then Exits b else Traps UNKNOWN_CALL)
 
--- a load or a store at byte address x traps with 4 where x is no multiple of its size
+-- a load or a store at byte address x traps where x is no multiple of its size
 abbrev pub load_asked : LoadKind → ℕ → ℕ → Action
-load_asked kind rd x = if is_aligned (load_size kind) x then Loads kind rd x else Traps 4
+load_asked kind rd x = if is_aligned (load_size kind) x then Loads kind rd x else Traps MISALIGNED_ACCESS
 
 abbrev pub store_asked : StoreKind → ℕ → ℕ → Action
-store_asked kind x y = if is_aligned (store_size kind) x then Stores kind x y else Traps 4
+store_asked kind x y = if is_aligned (store_size kind) x then Stores kind x y else Traps MISALIGNED_ACCESS
 
 -- what is asked for, before memory judges an access
 unfoldable pub asked_by : Operation → Op → ℕ → ℕ → ℕ → Action
-asked_by Illegal op pc a b = Traps 3
-asked_by FetchFault op pc a b = Traps 1
-asked_by Jal op pc a b = if misses_target Jal op pc a b then Traps 2 else Writes op.rd (value_by Jal op (4 * pc) a b)
-asked_by Jalr op pc a b = if misses_target Jalr op pc a b then Traps 2 else Writes op.rd (value_by Jalr op (4 * pc) a b)
-asked_by (Branch kind) op pc a b = if misses_target (Branch kind) op pc a b then Traps 2 else Writes 0 0
+asked_by Illegal op pc a b = Traps ILLEGAL_INSTRUCTION
+asked_by FetchFault op pc a b = Traps FETCH_FAULT
+asked_by Jal op pc a b = if misses_target Jal op pc a b then Traps MISALIGNED_TARGET else Writes op.rd (value_by Jal op (4 * pc) a b)
+asked_by Jalr op pc a b = if misses_target Jalr op pc a b then Traps MISALIGNED_TARGET else Writes op.rd (value_by Jalr op (4 * pc) a b)
+asked_by (Branch kind) op pc a b = if misses_target (Branch kind) op pc a b then Traps MISALIGNED_TARGET else Writes 0 0
 asked_by (Load kind) op pc a b = load_asked kind op.rd (sum32 a op.imm)
 asked_by (Store kind) op pc a b = store_asked kind (sum32 a op.imm) b
 asked_by Fence op pc a b = Writes 0 0
 asked_by Ecall op pc a b = called a b
-asked_by Ebreak op pc a b = Traps 7
+asked_by Ebreak op pc a b = Traps BREAKPOINT
 asked_by Lui op pc a b = Writes op.rd (value_by Lui op (4 * pc) a b)
 asked_by Auipc op pc a b = Writes op.rd (value_by Auipc op (4 * pc) a b)
 asked_by (AluImmediate kind) op pc a b = Writes op.rd (value_by (AluImmediate kind) op (4 * pc) a b)
@@ -111,12 +113,12 @@ some_executable executable x size =
     || (nat_lt 1 size && executable (x + 1))
     || (nat_lt 2 size && (executable (x + 2) || executable (x + 3)))
 
--- What memory makes of it: a load outside RAM traps with 5, a store outside RAM or into an executable segment with 6.
+-- What memory makes of it: a load outside RAM traps, and so does a store outside RAM or into an executable segment.
 -- `ram` tells which words (by word address) are in RAM, and `executable` which bytes an executable segment holds.
 unfoldable pub judged : (ℕ → Bool) → (ℕ → Bool) → Action → Action
-judged ram executable (Loads kind rd x) = if ram (x / 4) then Loads kind rd x else Traps 5
+judged ram executable (Loads kind rd x) = if ram (x / 4) then Loads kind rd x else Traps LOAD_FAULT
 judged ram executable (Stores kind x y) =
-    if ram (x / 4) && not (some_executable executable x (store_size kind)) then Stores kind x y else Traps 6
+    if ram (x / 4) && not (some_executable executable x (store_size kind)) then Stores kind x y else Traps STORE_FAULT
 judged ram executable action = action
 
 -- the access that an action asks for: where, how many bytes, and whether it writes
@@ -127,8 +129,8 @@ access_of action = None
 
 -- what memory makes of an action, told of its own place whether its word is in RAM and one of its bytes executable
 unfoldable pub judged_by : Bool → Bool → Action → Action
-judged_by in_ram executable (Loads kind rd x) = if in_ram then Loads kind rd x else Traps 5
-judged_by in_ram executable (Stores kind x y) = if in_ram && not executable then Stores kind x y else Traps 6
+judged_by in_ram executable (Loads kind rd x) = if in_ram then Loads kind rd x else Traps LOAD_FAULT
+judged_by in_ram executable (Stores kind x y) = if in_ram && not executable then Stores kind x y else Traps STORE_FAULT
 judged_by in_ram executable action = action
 
 unfoldable pub action : (ℕ → Bool) → (ℕ → Bool) → Op → ℕ → ℕ → ℕ → Action

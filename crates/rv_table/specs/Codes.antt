@@ -1,36 +1,23 @@
 -- The word table read in two steps, as the code does: first the code of a word, then the fields of the code's form.
-use Rattle.std.specs.Prelude.{ℕ, ◌+◌, ◌*◌, ◌/◌, ◌%◌, ◌^◌, ◌==◌, ◌&&◌, Bool, true, false, List, [], ◌∷◌, if◌then◌else◌}
+use Rattle.std.specs.Prelude.{ℕ, ◌+◌, ◌*◌, ◌/◌, ◌%◌, ◌^◌, ◌==◌, ◌&&◌, Bool, false, List, [], ◌∷◌, if◌then◌else◌}
 use Rattle.rv_table.specs.declared.form.Form.{Form}
 use Rattle.rv_table.specs.declared.form.Form.TheVariants.{U, J, I, B, S, Shift, R, Call, Counter, NoFields}
 use Rattle.rv_table.specs.declared.op.Op.{Op}
-use Rattle.rv_table.specs.Words.{Pattern, Opcode, Funct3, Funct7, Word, WordButRd, Row, rows, matches, opcode_of}
+use Rattle.rv_table.specs.declared.operation.Operation.{Operation}
+use Rattle.rv_table.specs.declared.operation.Operation.TheVariants.{Fence}
+use Rattle.rv_table.specs.declared.row.Pattern.{Pattern}
+use Rattle.rv_table.specs.declared.row.Pattern.TheVariants.{NoWord, Opcode, Funct3, Funct7, Word, WordButRd}
+use Rattle.rv_table.specs.Operations.{form_of}
+use Rattle.rv_table.specs.Rows.{Row, row_of, rows}
+use Rattle.rv_table.specs.Words.{opcode_of, row_of_word}
 
--- the code of the row whose fixed bits a word has, 0 where there is none
-abbrev pub first_code : List Row → ℕ → ℕ
-first_code [] w = 0
-first_code (r ∷ rs) w = if matches r.fixed w then r.code else first_code rs w
-
+-- the code of a word, 0 where it is in no row
 unfoldable pub code_of : ℕ → ℕ
-code_of w = first_code rows w
-
--- the form of a code; ILLEGAL and a code that has no row have no fields
-abbrev pub form_in : List Row → ℕ → Form
-form_in [] code = NoFields
-form_in (r ∷ rs) code = if code == r.code then r.form else form_in rs code
-
-unfoldable pub form_of : ℕ → Form
-form_of code = form_in rows code
-
--- whether a code has a row
-abbrev pub has_row_in : List Row → ℕ → Bool
-has_row_in [] code = false
-has_row_in (r ∷ rs) code = if code == r.code then true else has_row_in rs code
-
-unfoldable pub has_row : ℕ → Bool
-has_row code = has_row_in rows code
+code_of w = (row_of_word w).code
 
 -- the same by the fields of a word, for the cases of an opcode
 abbrev pub matches_by : Pattern → ℕ → ℕ → ℕ → ℕ → Bool
+matches_by NoWord opcode funct3 funct7 w = false
 matches_by (Opcode o) opcode funct3 funct7 w = opcode == o
 matches_by (Funct3 o f) opcode funct3 funct7 w = opcode == o && funct3 == f
 matches_by (Funct7 o f g) opcode funct3 funct7 w = opcode == o && (funct3 == f && funct7 == g)
@@ -44,20 +31,22 @@ first_by (r ∷ rs) opcode funct3 funct7 w = if matches_by r.fixed opcode funct3
 unfoldable pub code_by : ℕ → ℕ → ℕ → ℕ → ℕ
 code_by opcode funct3 funct7 w = first_by rows opcode funct3 funct7 w
 
--- From an operation to its word: the bits that the row fixes, 0 in the others; FENCE is encoded with all of its sets.
+-- From an operation to its word: the bits that its row fixes, 0 in the others.
 abbrev pub fixed_word : Pattern → ℕ
+fixed_word NoWord = 0
 fixed_word (Opcode o) = o
 fixed_word (Funct3 o f) = o + f * 2 ^ 12
 fixed_word (Funct7 o f g) = o + f * 2 ^ 12 + g * 2 ^ 25
 fixed_word (Word word) = word
 fixed_word (WordButRd word) = word
 
-abbrev pub fixed_in : List Row → ℕ → ℕ
-fixed_in [] code = 0
-fixed_in (r ∷ rs) code = if code == r.code then fixed_word r.fixed else fixed_in rs code
+-- FENCE, whose other bits are free, is encoded with all of its sets
+abbrev pub with_sets : Operation → ℕ → ℕ
+with_sets Fence bits = bits + 0x0FF00000
+with_sets _ bits = bits
 
 unfoldable pub fixed_bits : ℕ → ℕ
-fixed_bits code = if code == 47 then 0x0FF0000F else fixed_in rows code
+fixed_bits code = with_sets (row_of code).operation (fixed_word (row_of code).fixed)
 
 -- and the bits of the fields
 abbrev pub offset_bits_b : ℕ → ℕ

@@ -4,6 +4,8 @@ pub mod Arithmetic
 pub mod Codes
 pub mod Effects
 pub mod Operations
+pub mod Rows
+pub mod TableLaw
 pub mod Texts
 pub mod WellFormed
 pub mod Words

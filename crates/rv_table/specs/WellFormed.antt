@@ -1,9 +1,10 @@
 -- Which operations have a word: the fields fit the row of the code.
-use Rattle.std.specs.Prelude.{ℕ, ◌-◌, ◌%◌, ◌^◌, ◌==◌, ◌&&◌, ◌||◌, Bool, false, nat_lt, nat_le, List, [], ◌∷◌, if◌then◌else◌}
+use Rattle.std.specs.Prelude.{ℕ, ◌-◌, ◌%◌, ◌^◌, ◌==◌, ◌&&◌, ◌||◌, Bool, nat_lt, nat_le}
 use Rattle.rv_table.specs.declared.form.Form.{Form}
 use Rattle.rv_table.specs.declared.form.Form.TheVariants.{U, J, I, B, S, Shift, R, Call, Counter, NoFields}
 use Rattle.rv_table.specs.declared.op.Op.{Op}
-use Rattle.rv_table.specs.Words.{Row, rows}
+use Rattle.rv_table.specs.declared.op.TheConstants.{ILLEGAL_CODE}
+use Rattle.rv_table.specs.Operations.{form_of, has_row}
 
 abbrev pub is_register : ℕ → Bool
 is_register r = nat_lt r 32
@@ -25,10 +26,6 @@ fits Call op = op.rd == 0 && op.rs1 == 17 && op.rs2 == 10 && op.imm == 0
 fits Counter op = is_register op.rd && op.rs1 == 0 && op.rs2 == 0 && op.imm == 0
 fits NoFields op = op.rd == 0 && op.rs1 == 0 && op.rs2 == 0 && op.imm == 0
 
-abbrev pub fits_row : List Row → Op → Bool
-fits_row [] op = false
-fits_row (r ∷ rs) op = if op.code == r.code then fits r.form op else fits_row rs op
-
--- ILLEGAL with all fields 0, or an operation that fits the row of its code
+-- ILLEGAL with all fields 0, or an operation that has a word and fits the row of its code
 unfoldable pub well_formed : Op → Bool
-well_formed op = if op.code == 0 then fits NoFields op else fits_row rows op
+well_formed op = (op.code == ILLEGAL_CODE || has_row op.code) && fits (form_of op.code) op

@@ -1,17 +1,12 @@
--- The word table: which word is which instruction, row by row in the order of the codes, as the RISC-V specification
--- prints it.
-use Rattle.std.specs.Prelude.{ℕ, ◌+◌, ◌-◌, ◌*◌, ◌/◌, ◌%◌, ◌^◌, ◌==◌, ◌&&◌, Bool, List, [], ◌∷◌, nat_lt, if◌then◌else◌}
+-- From a word to its operation: the fields of a word, and the row of the word table whose fixed bits it has.
+use Rattle.std.specs.Prelude.{ℕ, ◌+◌, ◌-◌, ◌*◌, ◌/◌, ◌%◌, ◌^◌, ◌==◌, ◌&&◌, Bool, false, List, [], ◌∷◌, nat_lt, if◌then◌else◌}
 use Rattle.rv_table.specs.declared.form.Form.{Form}
 use Rattle.rv_table.specs.declared.form.Form.TheVariants.{U, J, I, B, S, Shift, R, Call, Counter, NoFields}
 use Rattle.rv_table.specs.declared.op.Op.{Op}
-
--- the fixed bits of a row: opcode, funct3 and funct7 as far as they are given, or all bits, or all but rd's
-pub data Pattern : Type 0 where
-  Opcode : (opcode : ℕ) → Pattern
-  Funct3 : (opcode : ℕ) → (funct3 : ℕ) → Pattern
-  Funct7 : (opcode : ℕ) → (funct3 : ℕ) → (funct7 : ℕ) → Pattern
-  Word : (word : ℕ) → Pattern
-  WordButRd : (word : ℕ) → Pattern
+use Rattle.rv_table.specs.declared.op.TheConstants.{ILLEGAL_CODE, FETCH_FAULT_CODE}
+use Rattle.rv_table.specs.declared.row.Pattern.{Pattern}
+use Rattle.rv_table.specs.declared.row.Pattern.TheVariants.{NoWord, Opcode, Funct3, Funct7, Word, WordButRd}
+use Rattle.rv_table.specs.Rows.{Row, illegal_row, rows}
 
 -- the fields of a word
 abbrev pub opcode_of : ℕ → ℕ
@@ -54,7 +49,9 @@ immediate_b w = sign_extended 13 (w / 2 ^ 31 * 2 ^ 12 + w / 2 ^ 7 % 2 * 2 ^ 11 +
 abbrev pub immediate_j : ℕ → ℕ
 immediate_j w = sign_extended 21 (w / 2 ^ 31 * 2 ^ 20 + w / 2 ^ 12 % 2 ^ 8 * 2 ^ 12 + w / 2 ^ 20 % 2 * 2 ^ 11 + w / 2 ^ 21 % 2 ^ 10 * 2)
 
+-- whether a word has these fixed bits
 abbrev pub matches : Pattern → ℕ → Bool
+matches NoWord w = false
 matches (Opcode opcode) w = opcode_of w == opcode
 matches (Funct3 opcode funct3) w = opcode_of w == opcode && funct3_of w == funct3
 matches (Funct7 opcode funct3 funct7) w = opcode_of w == opcode && (funct3_of w == funct3 && funct7_of w == funct7)
@@ -74,79 +71,21 @@ op_of_form Call code w = record { code = code; rd = 0; rs1 = 17; rs2 = 10; imm =
 op_of_form Counter code w = record { code = code; rd = rd_of w; rs1 = 0; rs2 = 0; imm = 0 }
 op_of_form NoFields code w = record { code = code; rd = 0; rs1 = 0; rs2 = 0; imm = 0 }
 
-pub record Row : Type 0 where
-  pub code : ℕ
-  pub fixed : Pattern
-  pub form : Form
+-- the row of a word: the one whose fixed bits it has, and ILLEGAL where there is none
+abbrev pub row_matching : List Row → ℕ → Row
+row_matching [] w = illegal_row
+row_matching (r ∷ rs) w = if matches r.fixed w then r else row_matching rs w
 
-abbrev pub row : ℕ → Pattern → Form → Row
-row code fixed form = record { code = code; fixed = fixed; form = form }
+unfoldable pub row_of_word : ℕ → Row
+row_of_word w = row_matching rows w
 
--- the rows, each with its name in the specification
-abbrev pub rows : List Row
-rows =
-    row 2 (Opcode 0x37) U ∷  -- LUI
-    row 3 (Opcode 0x17) U ∷  -- AUIPC
-    row 4 (Opcode 0x6F) J ∷  -- JAL
-    row 5 (Funct3 0x67 0) I ∷  -- JALR
-    row 6 (Funct3 0x63 0) B ∷  -- BEQ
-    row 7 (Funct3 0x63 1) B ∷  -- BNE
-    row 8 (Funct3 0x63 4) B ∷  -- BLT
-    row 9 (Funct3 0x63 5) B ∷  -- BGE
-    row 10 (Funct3 0x63 6) B ∷  -- BLTU
-    row 11 (Funct3 0x63 7) B ∷  -- BGEU
-    row 12 (Funct3 0x03 0) I ∷  -- LB
-    row 13 (Funct3 0x03 1) I ∷  -- LH
-    row 14 (Funct3 0x03 2) I ∷  -- LW
-    row 15 (Funct3 0x03 4) I ∷  -- LBU
-    row 16 (Funct3 0x03 5) I ∷  -- LHU
-    row 17 (Funct3 0x23 0) S ∷  -- SB
-    row 18 (Funct3 0x23 1) S ∷  -- SH
-    row 19 (Funct3 0x23 2) S ∷  -- SW
-    row 20 (Funct3 0x13 0) I ∷  -- ADDI
-    row 21 (Funct3 0x13 2) I ∷  -- SLTI
-    row 22 (Funct3 0x13 3) I ∷  -- SLTIU
-    row 23 (Funct3 0x13 4) I ∷  -- XORI
-    row 24 (Funct3 0x13 6) I ∷  -- ORI
-    row 25 (Funct3 0x13 7) I ∷  -- ANDI
-    row 26 (Funct7 0x13 1 0x00) Shift ∷  -- SLLI
-    row 27 (Funct7 0x13 5 0x00) Shift ∷  -- SRLI
-    row 28 (Funct7 0x13 5 0x20) Shift ∷  -- SRAI
-    row 29 (Funct7 0x33 0 0x00) R ∷  -- ADD
-    row 30 (Funct7 0x33 0 0x20) R ∷  -- SUB
-    row 31 (Funct7 0x33 1 0x00) R ∷  -- SLL
-    row 32 (Funct7 0x33 2 0x00) R ∷  -- SLT
-    row 33 (Funct7 0x33 3 0x00) R ∷  -- SLTU
-    row 34 (Funct7 0x33 4 0x00) R ∷  -- XOR
-    row 35 (Funct7 0x33 5 0x00) R ∷  -- SRL
-    row 36 (Funct7 0x33 5 0x20) R ∷  -- SRA
-    row 37 (Funct7 0x33 6 0x00) R ∷  -- OR
-    row 38 (Funct7 0x33 7 0x00) R ∷  -- AND
-    row 39 (Funct7 0x33 0 0x01) R ∷  -- MUL
-    row 40 (Funct7 0x33 1 0x01) R ∷  -- MULH
-    row 41 (Funct7 0x33 2 0x01) R ∷  -- MULHSU
-    row 42 (Funct7 0x33 3 0x01) R ∷  -- MULHU
-    row 43 (Funct7 0x33 4 0x01) R ∷  -- DIV
-    row 44 (Funct7 0x33 5 0x01) R ∷  -- DIVU
-    row 45 (Funct7 0x33 6 0x01) R ∷  -- REM
-    row 46 (Funct7 0x33 7 0x01) R ∷  -- REMU
-    row 47 (Funct3 0x0F 0) NoFields ∷  -- FENCE
-    row 48 (Word 0x00000073) Call ∷  -- ECALL
-    row 49 (Word 0x00100073) NoFields ∷  -- EBREAK
-    row 50 (WordButRd 0xC0002073) Counter ∷  -- RDCYCLE
-    row 51 (WordButRd 0xC0202073) Counter ∷  -- RDINSTRET
-    row 52 (WordButRd 0xC8002073) Counter ∷  -- RDCYCLEH
-    row 53 (WordButRd 0xC8202073) Counter ∷  -- RDINSTRETH
-    []
-
--- the operation of a word that is in no row: ILLEGAL
-abbrev pub illegal : Op
-illegal = record { code = 0; rd = 0; rs1 = 0; rs2 = 0; imm = 0 }
-
-abbrev pub first_match : List Row → ℕ → Op
-first_match [] w = illegal
-first_match (r ∷ rs) w = if matches r.fixed w then op_of_form r.form r.code w else first_match rs w
-
--- The operation of a word: that of the one row whose fixed bits it has, and code 0 with all fields 0 where there is none.
+-- the operation of a word: its row's code, with the fields of its form
 unfoldable pub decode : ℕ → Op
-decode w = first_match rows w
+decode w = op_of_form (row_of_word w).form (row_of_word w).code w
+
+-- ILLEGAL with all fields 0, and what is fetched at an address whose word isn't executable
+abbrev pub illegal : Op
+illegal = record { code = ILLEGAL_CODE; rd = 0; rs1 = 0; rs2 = 0; imm = 0 }
+
+abbrev pub fetch_fault : Op
+fetch_fault = record { code = FETCH_FAULT_CODE; rd = 0; rs1 = 0; rs2 = 0; imm = 0 }

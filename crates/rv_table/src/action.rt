@@ -3,7 +3,9 @@ ghost use Rattle.std.specs.Prelude.{◌≡◌, ◌<◌, ◌^◌, ◌&&◌, not};
 ghost use Rattle.rv_table.specs.Effects.{written_register};
 ghost use Rattle.rv_table.specs.Actions.{access_of, asked, called, is_clocked, is_aligned, is_counter, judged_by, load_asked, next_address, store_asked, with_counter};
 
-use crate::{Computed, CounterKind, LoadKind, Op, Operation, StoreKind, compute, operation_of};
+use crate::{
+    Computed, CounterKind, LoadKind, Op, Operation, StoreKind, compute, operation_of, trap,
+};
 
 /// What an instruction asks for, between decoding and doing: the instruction set performs it, EX puts it into a latch
 /// and MEM takes it out again. `address` is a byte address.
@@ -30,7 +32,7 @@ pub enum Action {
     Puts(u32),
     /// Ends with the low byte.
     Exits(u32),
-    /// Ends with the trap of this number.
+    /// Ends with the trap of this number (`trap` names them).
     Traps(u8),
 }
 
@@ -64,15 +66,15 @@ impl Action {
     }
 
     #[tactic(auto, unfolding(crate::specs::Actions::judged_by))]
-    /// What memory makes of it: a load outside RAM is trap 5, a store outside RAM or to an executable byte is trap 6.
+    /// What memory makes of it: a load outside RAM traps, and so does a store outside RAM or to an executable byte.
     /// `in_ram` tells of the word that it accesses, `executable` of its bytes.
     pub fn judged(self, in_ram: bool, executable: bool) -> Action
         ensures action { result ≡ judged_by in_ram executable self }
         ensures register { written_register self < 32 → written_register result < 32 }
     {
         match self {
-            Action::Loads { .. } if !in_ram => Action::Traps(5),
-            Action::Stores { .. } if !in_ram || executable => Action::Traps(6),
+            Action::Loads { .. } if !in_ram => Action::Traps(trap::LOAD_FAULT),
+            Action::Stores { .. } if !in_ram || executable => Action::Traps(trap::STORE_FAULT),
             action => action,
         }
     }
@@ -88,15 +90,15 @@ pub fn asked(op: &Op, pc: u32, a: u32, b: u32) -> Action
 {
     let computed = compute(op, a, b, 4 * pc);
     match operation_of(op.code) {
-        Operation::Illegal => Action::Traps(3),
-        Operation::FetchFault => Action::Traps(1),
+        Operation::Illegal => Action::Traps(trap::ILLEGAL_INSTRUCTION),
+        Operation::FetchFault => Action::Traps(trap::FETCH_FAULT),
         Operation::Jal | Operation::Jalr | Operation::Branch(_) if misses_target(&computed) =>
-            Action::Traps(2),
+            Action::Traps(trap::MISALIGNED_TARGET),
         Operation::Branch(_) | Operation::Fence => Action::Writes { rd: 0, value: 0 },
         Operation::Load(kind) => loaded_from(kind, op.rd, computed.value),
         Operation::Store(kind) => stored_to(kind, computed.value, b),
         Operation::Ecall => called(a, b),
-        Operation::Ebreak => Action::Traps(7),
+        Operation::Ebreak => Action::Traps(trap::BREAKPOINT),
         Operation::Lui
         | Operation::Auipc
         | Operation::Jal
@@ -117,7 +119,7 @@ fn misses_target(computed: &Computed) -> bool
     computed.taken && computed.target % 4 != 0
 }
 
-/// A load, or trap 4 at an address that is no multiple of its size.
+/// A load, or a trap at an address that is no multiple of its size.
 fn loaded_from(kind: LoadKind, rd: u8, address: u32) -> Action
     ensures action { result ≡ load_asked kind rd address }
     ensures register { rd < 32 → written_register result < 32 }
@@ -125,11 +127,11 @@ fn loaded_from(kind: LoadKind, rd: u8, address: u32) -> Action
     if address % kind.size() == 0 {
         Action::Loads { kind, rd, address }
     } else {
-        Action::Traps(4)
+        Action::Traps(trap::MISALIGNED_ACCESS)
     }
 }
 
-/// A store, or trap 4 at an address that is no multiple of its size.
+/// A store, or a trap at an address that is no multiple of its size.
 fn stored_to(kind: StoreKind, address: u32, value: u32) -> Action
     ensures action { result ≡ store_asked kind address value }
     ensures register { written_register result ≡ 0 }
@@ -141,11 +143,11 @@ fn stored_to(kind: StoreKind, address: u32, value: u32) -> Action
             value,
         }
     } else {
-        Action::Traps(4)
+        Action::Traps(trap::MISALIGNED_ACCESS)
     }
 }
 
-/// A system call: 1 puts a byte, 93 ends, any other is trap 8.
+/// A system call: 1 puts a byte, 93 ends, any other traps.
 fn called(a: u32, b: u32) -> Action
     ensures action { result ≡ called a b }
     ensures register { written_register result ≡ 0 }
@@ -153,7 +155,7 @@ fn called(a: u32, b: u32) -> Action
     match a {
         1 => Action::Puts(b),
         93 => Action::Exits(b),
-        _ => Action::Traps(8),
+        _ => Action::Traps(trap::UNKNOWN_CALL),
     }
 }
 

@@ -1,32 +1,25 @@
 // From an operation to its word.
 ghost use Rattle.std.specs.Prelude.{◌≡◌, ◌<◌, ◌≤◌, ◌+◌, ◌*◌, ◌^◌, IsTrue};
-ghost use Rattle.rv_table.specs.Codes.{field_bits, fixed_bits, has_row, offset_bits_b, offset_bits_j, word_of};
+ghost use Rattle.rv_table.specs.Codes.{field_bits, fixed_bits, offset_bits_b, offset_bits_j, word_of};
 ghost use Rattle.rv_table.specs.Words.{decode};
 ghost use Rattle.rv_table.specs.WellFormed.{fits, well_formed};
 
 use crate::form::bits;
-use crate::{Form, Op, form_of};
+use crate::op::ILLEGAL_CODE;
+use crate::{Form, Op, Operation, form_of, has_row, row_of};
 
-#[tactic(auto, using(crate::proofs::Rows::forms))]
+/// The bits by which FENCE names all of its sets.
+const FENCE_SETS: u32 = 0x0FF0_0000;
+
+#[tactic(auto, unfolding(crate::specs::WellFormed::well_formed))]
 /// Whether the operation is ILLEGAL with all fields 0, or its code has a word and its fields fit the row.
 pub fn well_formed(op: &Op) -> bool
     ensures { result ≡ well_formed op.now }
 {
-    match op.code {
-        0 => Form::NoFields.fits(op),
-        code => has_row(code) && form_of(code).fits(op),
-    }
+    (op.code == ILLEGAL_CODE || has_row(op.code)) && form_of(op.code).fits(op)
 }
 
-#[tactic(auto, unfolding(crate::specs::Codes::has_row))]
-/// Whether a code has a row in the word table.
-pub fn has_row(code: u8) -> bool
-    ensures { result ≡ has_row code }
-{
-    2 <= code && code <= 53
-}
-
-#[tactic(auto, using(crate::proofs::Encoded::encoded), unfolding(crate::specs::Codes::word_of))]
+#[tactic(auto, using(crate::proofs::Encoded::encoding), unfolding(crate::specs::Codes::word_of))]
 /// The word of a well-formed operation. FENCE is 0x0FF0000F, ILLEGAL the word 0.
 pub fn encode(op: &Op) -> u32
     requires { IsTrue (well_formed op.now) }
@@ -36,65 +29,15 @@ pub fn encode(op: &Op) -> u32
     fixed_bits(op.code) + field_bits(form_of(op.code), op)
 }
 
-#[tactic(auto, unfolding(crate::specs::Codes::fixed_bits))]
+#[tactic(auto, using(crate::proofs::RowLookups::fixing), unfolding(crate::specs::Codes::fixed_bits))]
 /// The bits of a word that its code fixes, 0 in the others.
 fn fixed_bits(code: u8) -> u32
     ensures { result ≡ fixed_bits code }
 {
-    match code {
-        2 => 0x0000_0037,
-        3 => 0x0000_0017,
-        4 => 0x0000_006F,
-        5 => 0x0000_0067,
-        6 => 0x0000_0063,
-        7 => 0x0000_1063,
-        8 => 0x0000_4063,
-        9 => 0x0000_5063,
-        10 => 0x0000_6063,
-        11 => 0x0000_7063,
-        12 => 0x0000_0003,
-        13 => 0x0000_1003,
-        14 => 0x0000_2003,
-        15 => 0x0000_4003,
-        16 => 0x0000_5003,
-        17 => 0x0000_0023,
-        18 => 0x0000_1023,
-        19 => 0x0000_2023,
-        20 => 0x0000_0013,
-        21 => 0x0000_2013,
-        22 => 0x0000_3013,
-        23 => 0x0000_4013,
-        24 => 0x0000_6013,
-        25 => 0x0000_7013,
-        26 => 0x0000_1013,
-        27 => 0x0000_5013,
-        28 => 0x4000_5013,
-        29 => 0x0000_0033,
-        30 => 0x4000_0033,
-        31 => 0x0000_1033,
-        32 => 0x0000_2033,
-        33 => 0x0000_3033,
-        34 => 0x0000_4033,
-        35 => 0x0000_5033,
-        36 => 0x4000_5033,
-        37 => 0x0000_6033,
-        38 => 0x0000_7033,
-        39 => 0x0200_0033,
-        40 => 0x0200_1033,
-        41 => 0x0200_2033,
-        42 => 0x0200_3033,
-        43 => 0x0200_4033,
-        44 => 0x0200_5033,
-        45 => 0x0200_6033,
-        46 => 0x0200_7033,
-        47 => 0x0FF0_000F,
-        48 => 0x0000_0073,
-        49 => 0x0010_0073,
-        50 => 0xC000_2073,
-        51 => 0xC020_2073,
-        52 => 0xC800_2073,
-        53 => 0xC820_2073,
-        _ => 0,
+    let row = row_of(code);
+    match row.operation {
+        Operation::Fence => FENCE_SETS + row.fixed.bits(),
+        _ => row.fixed.bits(),
     }
 }
 

@@ -1,6 +1,5 @@
 // The forms of the instructions: which fields a word has, and where.
 ghost use Rattle.std.specs.Prelude.{◌≡◌, ◌<◌, ◌≤◌, ◌^◌, ◌/◌, ◌%◌, ◌+◌, ◌*◌};
-ghost use Rattle.rv_table.specs.Codes.{form_of};
 ghost use Rattle.rv_table.specs.WellFormed.{fits, is_signed};
 ghost use Rattle.rv_table.specs.Words.{immediate_b, immediate_i, immediate_j, immediate_s, immediate_u, op_of_form, sign_extended};
 
@@ -28,26 +27,6 @@ pub enum Form {
     /// rd alone.
     Counter,
     NoFields,
-}
-
-#[tactic(auto, unfolding(crate::specs::Codes::form_of))]
-/// The form of a code. ILLEGAL and each code that has no word have no fields.
-pub fn form_of(code: u8) -> Form
-    ensures { result ≡ form_of code }
-{
-    match code {
-        2 | 3 => Form::U,
-        4 => Form::J,
-        5 | 12 | 13 | 14 | 15 | 16 | 20 | 21 | 22 | 23 | 24 | 25 => Form::I,
-        6 | 7 | 8 | 9 | 10 | 11 => Form::B,
-        17 | 18 | 19 => Form::S,
-        26 | 27 | 28 => Form::Shift,
-        29 | 30 | 31 | 32 | 33 | 34 | 35 | 36 | 37 | 38 => Form::R,
-        39 | 40 | 41 | 42 | 43 | 44 | 45 | 46 => Form::R,
-        48 => Form::Call,
-        50 | 51 | 52 | 53 => Form::Counter,
-        _ => Form::NoFields,
-    }
 }
 
 /// `count` bits of a word, from bit `low` on.

@@ -16,18 +16,22 @@ mod execution;
 mod form;
 mod op;
 mod operation;
+mod row;
 mod spelling;
+pub mod trap;
 
 pub use access::{loaded, store_word};
 pub use action::{Access, Action, asked, is_clocked, is_counter, next_address, with_counter};
 pub use arithmetic::{alu, holds};
 pub use decoding::decode;
-pub use encoding::{encode, has_row, well_formed};
+pub use encoding::{encode, well_formed};
 pub use execution::{Computed, compute};
-pub use form::{Form, form_of};
-pub use op::Op;
-pub use operation::{
-    AluKind, BranchKind, CounterKind, LoadKind, Operation, StoreKind, operation_of,
+pub use form::Form;
+pub use op::{FETCH_FAULT_CODE, ILLEGAL_CODE, Op};
+pub use operation::{AluKind, BranchKind, CounterKind, LoadKind, Operation, StoreKind};
+pub use row::{
+    DIVIDE_DELAY, InstructionRow, MULTIPLY_DELAY, Pattern, all_rows, delay_of, form_of, has_row,
+    operation_of, row_named, row_of, table_law,
 };
 pub use spelling::{OutOfMemory, text};
 

@@ -1,6 +1,12 @@
 // A decoded instruction.
 
-/// A decoded instruction: its code (`operation_of` says what it means), registers and immediate. A field that the
+/// The code of a word that is in no row of the table.
+pub const ILLEGAL_CODE: u8 = 0;
+
+/// The code that is fetched where the word isn't executable.
+pub const FETCH_FAULT_CODE: u8 = 1;
+
+/// A decoded instruction: its code (`row_of` gives its row in the table), registers and immediate. A field that the
 /// form doesn't have is 0; an immediate is sign-extended to 32 bits (two's complement).
 #[derive(Clone, Copy, Debug, PartialEq, Eq)]
 pub struct Op {

@@ -1,11 +1,10 @@
 // The assembler's spelling of an operation.
-ghost use Rattle.std.specs.Prelude.{◌≡◌, ◌<◌, ◌∷◌, [], IfOk, codes, decimal, string_bytes};
+ghost use Rattle.std.specs.Prelude.{◌≡◌, ◌<◌, ◌∷◌, [], IfOk, codes, decimal, map, string_bytes};
 ghost use Rattle.std.specs.Fmt.{signed_decimal};
+ghost use Rattle.rv_table.specs.Texts.{HasText, at_address, mnemonic, register_name, register_names, text, three, two};
 ghost use Rattle.std.specs.List.{concat};
-ghost use Rattle.rv_table.specs.Operations.{operation_of};
-ghost use Rattle.rv_table.specs.Texts.{HasText, at_address, mnemonic, names_address, register_name, text, three, two};
 
-use crate::{Form, Op, Operation, form_of, has_row, operation_of};
+use crate::{Form, Op, form_of, has_row, operation_of, row_of};
 use std::alloc::{AllocError, Global};
 use thiserror::Error;
 
@@ -39,7 +38,7 @@ pub fn text(alloc: Global, op: &Op) -> Result<String, OutOfMemory>
     match form_of(op.code) {
         Form::U => upper(alloc, name, rd, op.imm >> 12),
         Form::J => jump(alloc, name, rd, imm),
-        Form::I if names_address(op.code) => at_address(alloc, name, rd, imm, rs1),
+        Form::I if operation_of(op.code).names_address() => at_address(alloc, name, rd, imm, rs1),
         Form::I => with_number(alloc, name, rd, rs1, imm),
         Form::B => with_number(alloc, name, rs1, rs2, imm),
         Form::S => at_address(alloc, name, rs2, imm, rs1),
@@ -48,13 +47,6 @@ pub fn text(alloc: Global, op: &Op) -> Result<String, OutOfMemory>
         Form::Counter => counter(alloc, name, rd),
         Form::Call | Form::NoFields => alone(alloc, name),
     }
-}
-
-/// Whether the last operand is an address, `n(rs1)`.
-fn names_address(code: u8) -> bool
-    ensures { result ≡ names_address (operation_of code) }
-{
-    matches!(operation_of(code), Operation::Jalr | Operation::Load(_))
 }
 
 fn alone(alloc: Global, name: &str) -> Result<String, OutOfMemory>
@@ -129,107 +121,32 @@ fn registers(
     Ok(format!(in alloc; "{name} {first}, {second}, {third}")?)
 }
 
-#[tactic(auto, unfolding(crate::specs::Texts::mnemonic))]
-/// The mnemonic of a code.
-fn mnemonic(code: u8) -> &'static str
-    ensures { result.now ≡ mnemonic code }
+/// The names of the registers, in their order.
+static REGISTER_NAMES: [&str; 32] = [
+    "zero", "ra", "sp", "gp", "tp", "t0", "t1", "t2", "s0", "s1", "a0", "a1", "a2", "a3", "a4",
+    "a5", "a6", "a7", "s2", "s3", "s4", "s5", "s6", "s7", "s8", "s9", "s10", "s11", "t3", "t4",
+    "t5", "t6",
+];
+
+fn register_names() -> &'static [&'static str]
+    ensures { map (λ name. name.now) result.now ≡ register_names }
 {
-    match code {
-        1 => "fault",
-        2 => "lui",
-        3 => "auipc",
-        4 => "jal",
-        5 => "jalr",
-        6 => "beq",
-        7 => "bne",
-        8 => "blt",
-        9 => "bge",
-        10 => "bltu",
-        11 => "bgeu",
-        12 => "lb",
-        13 => "lh",
-        14 => "lw",
-        15 => "lbu",
-        16 => "lhu",
-        17 => "sb",
-        18 => "sh",
-        19 => "sw",
-        20 => "addi",
-        21 => "slti",
-        22 => "sltiu",
-        23 => "xori",
-        24 => "ori",
-        25 => "andi",
-        26 => "slli",
-        27 => "srli",
-        28 => "srai",
-        29 => "add",
-        30 => "sub",
-        31 => "sll",
-        32 => "slt",
-        33 => "sltu",
-        34 => "xor",
-        35 => "srl",
-        36 => "sra",
-        37 => "or",
-        38 => "and",
-        39 => "mul",
-        40 => "mulh",
-        41 => "mulhsu",
-        42 => "mulhu",
-        43 => "div",
-        44 => "divu",
-        45 => "rem",
-        46 => "remu",
-        47 => "fence",
-        48 => "ecall",
-        49 => "ebreak",
-        50 => "rdcycle",
-        51 => "rdinstret",
-        52 => "rdcycleh",
-        53 => "rdinstreth",
-        _ => "illegal",
-    }
+    &REGISTER_NAMES
 }
 
-#[tactic(auto, unfolding(crate::specs::Texts::register_name))]
+#[tactic(auto, using(crate::proofs::Spelled::naming))]
 /// The name of a register.
 fn register_name(register: u8) -> &'static str
     requires { register < 32 }
     ensures { result.now ≡ register_name register }
 {
-    match register {
-        0 => "zero",
-        1 => "ra",
-        2 => "sp",
-        3 => "gp",
-        4 => "tp",
-        5 => "t0",
-        6 => "t1",
-        7 => "t2",
-        8 => "s0",
-        9 => "s1",
-        10 => "a0",
-        11 => "a1",
-        12 => "a2",
-        13 => "a3",
-        14 => "a4",
-        15 => "a5",
-        16 => "a6",
-        17 => "a7",
-        18 => "s2",
-        19 => "s3",
-        20 => "s4",
-        21 => "s5",
-        22 => "s6",
-        23 => "s7",
-        24 => "s8",
-        25 => "s9",
-        26 => "s10",
-        27 => "s11",
-        28 => "t3",
-        29 => "t4",
-        30 => "t5",
-        _ => "t6",
-    }
+    register_names()[register as usize]
+}
+
+#[tactic(auto, unfolding(crate::specs::Texts::mnemonic))]
+/// The mnemonic of a code.
+fn mnemonic(code: u8) -> &'static str
+    ensures { result.now ≡ mnemonic code }
+{
+    row_of(code).mnemonic
 }

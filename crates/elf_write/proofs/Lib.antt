@@ -1,0 +1,4 @@
+pub mod HeaderFields
+pub mod Segments
+pub mod Accepting
+pub mod Loaded

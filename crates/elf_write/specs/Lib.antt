@@ -1,0 +1,3 @@
+pub mod Code
+pub mod File
+pub mod Loading

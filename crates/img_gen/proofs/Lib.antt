@@ -1,0 +1,4 @@
+pub mod Accepted
+pub mod Bodies
+pub mod Fitting
+pub mod Sizes
