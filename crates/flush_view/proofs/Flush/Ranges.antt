@@ -9,15 +9,15 @@ use Rattle.elf_load.specs.Image.{LoadedImage}
 use Rattle.inst_buf.specs.Buffer.{entries}
 use Rattle.inst_buf.specs.Entry.{Entry}
 use Rattle.inst_buf.specs.EntryBits as slot
-use Rattle.rv_table.specs.Actions.{holds, is_aligned, next_address, taken, target, target_by}
 use Rattle.rv_table.specs.Effects.{written_register}
-use Rattle.rv_table.specs.Operations.{operation_of}
 use Rattle.rv_table.specs.Words.{decode}
 use Rattle.rv_table.specs.declared.action.Action.{Action}
-use Rattle.rv_table.specs.declared.op.Op.{Op}
-use Rattle.rv_table.specs.declared.operation.Operation.{Operation}
-use Rattle.rv_table.specs.declared.operation.Operation.TheVariants.{Branch, Jal, Jalr}
 use Rattle.rv_isa.specs.Instruction.{State as Arch, Log, completed, given, put_reg, reg}
+use Rattle.rv_isa.specs.Words.{IsWords}
+use Rattle.rv_isa.proofs.Ranges.{given_below, operand_below, put_below, words_completed, words_performed}
+use Rattle.rv_table.proofs.Addresses.{next_address-below}
+use Rattle.rv_table.proofs.DecodedFields.{decode-imm}
+use Rattle.rv_table.proofs.Ranges.{IsSmall}
 use Rattle.pipe_latch.specs.LatchedActions.{action_of}
 use Rattle.pipe_latch.specs.Latches.{DecodedLatch, ExecutedLatch, ResultLatch}
 use Rattle.pipe_latch.proofs.Settled.{settled-operand}
@@ -28,35 +28,11 @@ use Rattle.cyc_machine.specs.Pipeline.{op_of_entry, register}
 use Rattle.cyc_machine.specs.Sizes.{HoldsBytes}
 use Rattle.cyc_machine.specs.State.{State}
 use Rattle.flush_view.specs.Flush.{before_latches, completed_path, flush, item_of_entry, latched, path, path_of}
+use Rattle.flush_view.specs.FlushParts.{InRange}
 use Rattle.flush_view.specs.Views.{view}
 use Rattle.flush_view.proofs.Flush.Operands.{written-by}
-use Rattle.flush_view.proofs.Flush.ToCome.{IsSmall, IsWords, decode_imm, given_below, words_completed, words_performed}
 use Rattle.flush_view.proofs.Memory.Given.{index_below}
 use Rattle.flush_view.proofs.Memory.ViewBytes.{view-below}
-
--- ---- addresses
-
-half_below : (x : ℕ) → x < 2 ^ 32 → x / 2 * 2 < 2 ^ 32
-half_below x h = omega arith
-
-sum_below : (a b : ℕ) → (a + b) % 2 ^ 32 < 2 ^ 32
-sum_below a b = omega arith
-
--- to move: rv_table
-target_below : (o : Operation) (op : Op) (at a b : ℕ) → target_by o op at a b < 2 ^ 32
-unfolding target_by
-target_below Jal op at a b = sum_below at op.imm
-target_below Jalr op at a b = half_below _ (sum_below a op.imm)
-target_below (Branch kind) op at a b = elim (holds kind a b) as (λ t. (if t then (at + op.imm) % 2 ^ 32 else (at + 4) % 2 ^ 32) < 2 ^ 32) [ true ↦ sum_below at op.imm | false ↦ sum_below at 4 ]
-target_below _ op at a b = sum_below at 4
-
-pub next-below : (op : Op) (pc a b : ℕ) → next_address op pc a b < 2 ^ 30
-unfolding next_address
-next-below op pc a b = go (taken op a b && is_aligned 4 (target op (4 * pc) a b)) (target_below (operation_of op.code) op (4 * pc) a b)
-  where
-    go : (t : Bool) → target op (4 * pc) a b < 2 ^ 32 → (if t then target op (4 * pc) a b / 4 else (pc + 1) % 2 ^ 30) < 2 ^ 30
-    go true h = omega arith
-    go false h = omega arith
 
 -- ---- what the latches hold
 
@@ -93,13 +69,6 @@ operand-below image m w memory rs held small bytes v h =
     go false false true g = v
     go false false false g = h
 
-pub reg-below : (registers : ℕ → ℕ) (r : ℕ) → ((q : ℕ) → registers q < 2 ^ 32) → reg registers r < 2 ^ 32
-reg-below registers r h = go (r == 0)
-  where
-    go : (b : Bool) → (if b then 0 else registers r) < 2 ^ 32
-    go true = lit< tt
-    go false = h r
-
 -- ---- the path
 
 -- an item whose operands have 32 bits wherever the registers have
@@ -108,18 +77,13 @@ pub record IsSmallItem (item : Item) : Type 0 where
   pub a : (registers : ℕ → ℕ) → ((r : ℕ) → registers r < 2 ^ 32) → item.a registers < 2 ^ 32
   pub b : (registers : ℕ → ℕ) → ((r : ℕ) → registers r < 2 ^ 32) → item.b registers < 2 ^ 32
 
--- the numbers of a state, and its address
-pub record InRange (at : Arch) : Type 0 where
-  pub words : IsWords at
-  pub pc : at.pc < 2 ^ 30
-
 item-in_range : (image : LoadedImage) (item : Item) (at : Arch) → IsSmallItem item → InRange at → InRange (completed_item image item at)
 unfolding completed
 item-in_range image item at small is = record {
   words =
       words_completed image item.op item.pc (item.a at.registers) (item.b at.registers) at (small.a at.registers is.words.registers)
       (small.b at.registers is.words.registers) small.imm is.words;
-  pc = next-below item.op item.pc (item.a at.registers) _;
+  pc = next_address-below item.op item.pc (item.a at.registers) _;
 }
 
 pub path-in_range : (image : LoadedImage) (items : List Item) (at : Arch) → All IsSmallItem items → InRange at → InRange (completed_path image items at)
@@ -145,14 +109,14 @@ entry-imm : (e : Entry) → e.word < 2 ^ 32 → (op_of_entry e).imm < 2 ^ 32
 entry-imm e h = go e.fault
   where
     go : (b : Bool) → (if b then record (decode e.word) { code = 1 } else decode e.word).imm < 2 ^ 32
-    go true = decode_imm e.word h
-    go false = decode_imm e.word h
+    go true = decode-imm e.word h
+    go false = decode-imm e.word h
 
 pub entry-small : (e : Entry) → e.word < 2 ^ 32 → IsSmallItem (item_of_entry e)
 entry-small e h = record {
   imm = entry-imm e h;
-  a = λ registers below. reg-below registers (op_of_entry e).rs1 below;
-  b = λ registers below. reg-below registers (op_of_entry e).rs2 below;
+  a = λ registers below. operand_below registers (op_of_entry e).rs1 below;
+  b = λ registers below. operand_below registers (op_of_entry e).rs2 below;
 }
 
 pub latch-small : (image : LoadedImage) (m : Action) (w : ResultLatch) (memory : ℕ → ℕ) (d : DecodedLatch) → IsSmall m → ((p : ℕ) → memory p < 2 ^ 8)
@@ -178,17 +142,6 @@ register-below registers r is = go (r == 0)
     go true = lit< tt
     go false = word_at_below registers (r - 1) is
 
-written-below : (rd value : ℕ) (registers : ℕ → ℕ) (r : ℕ) → value < 2 ^ 32 → ((q : ℕ) → registers q < 2 ^ 32) → put_reg rd value registers r < 2 ^ 32
-written-below rd value registers r h below = go (rd == 0) (r == rd)
-  where
-    go : (a b : Bool) → (if a then registers else (λ q. if q == rd then value else registers q)) r < 2 ^ 32
-    go true b = below r
-    go false b = inner (r == rd)
-      where
-        inner : (c : Bool) → (if c then value else registers r) < 2 ^ 32
-        inner true = h
-        inner false = below r
-
 module _ (s : State) (is : IsMachine s) (clocks : List ℕ) (below : All (λ clock. clock < 2 ^ 32) clocks) (log : Log) where
   bytes : HoldsBytes s
   bytes = record { cache = is.cache.bytes; memory = is.memory_bytes }
@@ -202,7 +155,7 @@ module _ (s : State) (is : IsMachine s) (clocks : List ℕ) (below : All (λ clo
         words_performed s.image (action_in_m s)
         (record (before_latches s (view s) clocks log) { registers = put_reg s.w.rd s.w.value (register s.registers) }) small
         (record {
-          registers = λ r. written-below s.w.rd s.w.value (register s.registers) r is.w.1.0 (λ q. register-below s.registers q is.registers.1);
+          registers = put_below s.w.rd s.w.value (register s.registers) is.w.1.0 (λ q. register-below s.registers q is.registers.1);
           memory = view-below s bytes;
           count = is.issued;
           clocks = below;
