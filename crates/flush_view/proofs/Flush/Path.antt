@@ -4,7 +4,6 @@ use Rattle.std.specs.Prelude.{Option, Some, None, ◌==◌, ◌&&◌, is_none, n
 use Rattle.std.proofs.lemmas.Bool.Decides.{nat_tests}
 use Rattle.elf_load.specs.Image.{LoadedImage, fetch}
 use Rattle.rv_table.specs.Words.{decode, row_of_word}
-use Rattle.rv_table.specs.Words as words
 use Rattle.rv_table.specs.declared.op.Op.{Op}
 use Rattle.rv_isa.specs.Instruction.{State as Arch, completed, instruction, op_at, op_of_word, reg}
 use Rattle.cyc_machine.specs.Pipeline.{entry_of_word, fetched, op_of_entry}
