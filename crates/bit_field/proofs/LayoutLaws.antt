@@ -1,12 +1,12 @@
 -- The laws of a flip for a structure of fields.
-use Rattle.std.proofs.Common.{◌≡◌, ◌≢◌, ℕ, zero, suc, ◌+◌, ◌-◌, ◌^◌, ◌<◌, ◌≤◌, List, [], ◌∷◌, refl, sym, ◌∙◌, ap, subst, arith, inl, inr, ◌⊎◌}
+use Rattle.std.proofs.Common.{◌≡◌, ◌≢◌, ℕ, zero, suc, ◌-◌, ◌^◌, ◌<◌, ◌≤◌, List, [], ◌∷◌, refl, sym, ◌∙◌, ap, subst, arith, inl, inr, ◌⊎◌}
 use Rattle.std.specs.Int.{bit_at}
 use Rattle.std.specs.Prelude.{Bool, true, false, not, nat_eq, Option, Some, None, slice_get}
 use Rattle.std.proofs.lemmas.Bool.{cases_lt, cases_eq}
 use Rattle.std.proofs.lemmas.Nat.Bits.{bit_at-lt, same_from_bits_below}
 use Rattle.std.proofs.lemmas.Option.{none-some, same_Some}
 use Rattle.bit_field.specs.Laws.{FlipLaws}
-use Rattle.bit_field.specs.Layouts.{Layout, AreFit, IsFit, bit_by, bit_count, bit_of, bits_of, field_of, flip, flip_by, flipped, located, number_of}
+use Rattle.bit_field.specs.Layouts.{Layout, AreFit, IsFit, bit_by, bit_count, bit_of, field_of, flip, flip_by, flipped, located, number_of}
 use Rattle.bit_field.proofs.Bits.{bit_at-flip_same, bit_at-flip_other, flip_below, flip_twice}
 use Rattle.bit_field.proofs.Located.{bit_of_field, is_located, located-here, located-none, located-on, located_within}
 

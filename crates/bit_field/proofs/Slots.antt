@@ -1,6 +1,6 @@
 -- The used slots of a list of slots, and n slots with a list in front. `used` tells a used slot, and `empty` is an unused one.
 use Rattle.std.proofs.Common.{◌≡◌, ℕ, zero, suc, ◌+◌, ◌-◌, ◌<◌, ◌≤◌, Bool, true, false, List, [], ◌∷◌, ◌++◌, length, take, drop, replicate, get_or}
-use Rattle.std.proofs.Common.{cond, refl, sym, ◌∙◌, ap, arith, append_assoc, append-nil, length-append, slice_get, Some, take-append-drop}
+use Rattle.std.proofs.Common.{cond, refl, sym, ◌∙◌, ap, arith, append_assoc, append-nil, length-append, take-append-drop}
 use Rattle.std.proofs.Math.ListN.{set}
 use Rattle.std.specs.List.{All, filter}
 use Rattle.std.proofs.lemmas.List.{set_at, set_split, length-replicate}
