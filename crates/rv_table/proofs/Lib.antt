@@ -1,5 +1,5 @@
 pub mod Addresses
-pub mod Codes
+pub mod CodesOfWords
 pub mod DecodedFields
 pub mod Encoded
 pub mod Fields
