@@ -9,10 +9,11 @@ use Rattle.rv_isa.specs.Effects.{retired_at}
 use Rattle.rv_isa.specs.Instruction.{State, instruction}
 use Rattle.rv_isa.specs.Runs.{ProgramTrace, IsTrace, reset, trace_at}
 use Rattle.rv_isa.specs.declared.effect.Retired.{Retired}
-use Rattle.need_pass.specs.Law.{IsWords, seen, seen_of, NeedLaw}
+use Rattle.need_pass.specs.Law.{seen, seen_of, NeedLaw}
 use Rattle.need_pass.specs.Needed.{Agrees}
 use Rattle.need_pass.proofs.Agreement.{same_seen, agrees_next}
-use Rattle.need_pass.proofs.Ranges.{words_next, words_reset, words_after}
+use Rattle.rv_isa.specs.Words.{IsWords}
+use Rattle.rv_isa.proofs.Ranges.{words_next, words_reset, words_after}
 
 module _ (image : LoadedImage) (clocks : List ℕ) (run : ProgramTrace) (is : IsImage image) (fit : All (λ c. c < 2 ^ 32) clocks) (trace : IsTrace image clocks run) where
   recorded_words : (i : ℕ) → IsWords (trace_at image clocks i)

@@ -47,7 +47,6 @@ module _ (shape : Shape) (out : ℕ → Bool) (set : ℕ) (old : Slot) where
   pub replaces-invalid : (old.dirty ≡ false) ⊎ IsOut shape out set old → Replaces shape out set old (record old { valid = false })
   replaces-invalid was = replaces-out (record old { valid = false }) (invalid-out shape out set (record old { valid = false }) refl) was
 
-
   -- the same slot, dirty
   pub replaces-dirty : Replaces shape out set old (record old { dirty = true })
   replaces-dirty = record {

@@ -6,8 +6,8 @@ use Rattle.wb_cache.specs.declared.event.CacheEvent.{CacheEvent}
 use Rattle.wb_cache.specs.declared.event.EventKind.{EventKind}
 use Rattle.wb_cache.specs.declared.event.EventKind.TheVariants.{Read, Write, Miss, Fill}
 use Rattle.event_log.specs.Events.{first_event, holds_byte, is_of_slot}
-use Rattle.line_life.specs.declared.next.Next.{Next}
-use Rattle.line_life.specs.declared.next.Next.TheVariants.{Read as IsRead, Overwritten, Beside, Evicted, Ends}
+use Rattle.event_log.specs.declared.next.Next.{Next}
+use Rattle.event_log.specs.declared.next.Next.TheVariants.{Read as IsRead, Overwritten, Beside, Evicted, Ends}
 
 -- Which kinds of events in its slot concern a byte, by whether their lanes hold it: a read of the byte, any write and any fill.
 abbrev pub concerns_by : EventKind → Bool → Bool
