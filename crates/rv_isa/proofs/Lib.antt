@@ -1,3 +1,4 @@
+pub mod Accessed
 pub mod Allowed
 pub mod Entries
 pub mod Fetched

@@ -1,3 +1,4 @@
+pub mod AccessLaw
 pub mod Accesses
 pub mod Architecture
 pub mod Effects

@@ -8,7 +8,7 @@ mod runs;
 pub mod trace;
 
 pub use arch::Arch;
-pub use effect::{Effect, Retired};
+pub use effect::{Effect, Retired, access_law};
 pub use error::IsaError;
 pub use runs::{run, run_clocked};
 pub use trace::Trace;
