@@ -8,8 +8,6 @@ pub mod MaskBits
 pub mod NeedLaw
 pub mod OneStep
 pub mod Passes
-pub mod Ranges
-pub mod Results
 pub mod SameAccess
 pub mod SameAlu
 pub mod SameResult

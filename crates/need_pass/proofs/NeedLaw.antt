@@ -14,10 +14,11 @@ use Rattle.rv_isa.specs.Accesses.{line_of, next_line}
 use Rattle.need_pass.proofs.Accessed.{loaded_line, needed_loaded}
 use Rattle.need_pass.specs.Links.{loads}
 use Rattle.need_pass.specs.ProgramBits.{Byte}
-use Rattle.need_pass.specs.Law.{IsWords, seen, seen_of, NeedLaw}
+use Rattle.need_pass.specs.Law.{seen, seen_of, NeedLaw}
 use Rattle.need_pass.specs.Needed.{Agrees, Needed}
 use Rattle.need_pass.proofs.Agreement.{same_seen, agrees_next}
-use Rattle.need_pass.proofs.Ranges.{words_next, words_reset, words_after}
+use Rattle.rv_isa.specs.Words.{IsWords}
+use Rattle.rv_isa.proofs.Ranges.{words_next, words_reset, words_after}
 
 get-drop : (xs : List Retired) (i j : ℕ) (x : Retired) → slice_get (drop i xs) j ≡ Some x → slice_get xs (i + j) ≡ Some x
 get-drop xs zero j x e = let same : 0 + j ≡ j = omega arith in ap (slice_get xs) same ∙ e

@@ -1,5 +1,5 @@
 -- One instruction, field by field: the registers, the operands, and what is recorded of it.
-use Rattle.std.proofs.Common.{◌≡◌, ◌≢◌, ℕ, ◌+◌, ◌*◌, ◌/◌, ◌^◌, ◌<◌, ◌≤◌, Bool, true, false, cond, eqb, refl, ◌∙◌, ap, arith, inl, inr, lit<}
+use Rattle.std.proofs.Common.{◌≡◌, ◌≢◌, ℕ, ◌+◌, ◌*◌, ◌/◌, ◌^◌, ◌<◌, ◌≤◌, Bool, true, false, cond, eqb, refl, ◌∙◌, ap, arith, inl, inr}
 use Rattle.std.specs.Int.{bit_at}
 use Rattle.std.specs.Prelude.{Option, Some, None, ◌&&◌}
 use Rattle.std.proofs.lemmas.Bool.{cases_eq, false≢true}
@@ -35,10 +35,6 @@ not_zero r n = grind (arith, nat_tests)
 pub same_operand : (f g : ℕ → ℕ) (r k : ℕ) → (0 < r → bit_at (f r) k ≡ bit_at (g r) k) → bit_at (reg f r) k ≡ bit_at (reg g r) k
 same_operand f g r k same =
     elim (cases_eq r 0) [ inl e ↦ rw e refl | inr n ↦ rw (not_zero r n) (same (omega arith)) ]
-
-pub operand_below : (f : ℕ → ℕ) (r : ℕ) → ((s : ℕ) → f s < 2 ^ 32) → reg f r < 2 ^ 32
-operand_below f r h =
-    elim (cases_eq r 0) [ inl e ↦ rw e (lit< tt) | inr n ↦ rw (not_zero r n) (h r) ]
 
 -- whether a register is written, and what it holds then
 pub writes_is : (image : LoadedImage) (x : Action) (f : ℕ → ℕ) (r : ℕ) → 0 < r → is_register (write_of image x f) r ≡ eqb r (written_register x)

@@ -5,6 +5,7 @@ use Rattle.std.proofs.lemmas.Bool.{cases_lt}
 use Rattle.std.proofs.lemmas.Bool.Decides.{nat_tests}
 use Rattle.std.proofs.lemmas.Nat.Bits.{bit_at_above, bit_at_ones, bit_at_cat_low, bit_at_cat_high}
 use Rattle.bit_field.proofs.Low.{bit_at-mod, bit_at-shr}
+use Rattle.rv_table.proofs.Ranges.{half_below}
 use Rattle.rv_table.specs.Accesses.{accesses, byte_of, load_size, loaded, extended_byte, extended_half, half_at, word_at, word_of_bytes}
 use Rattle.rv_table.specs.declared.operation.LoadKind.{LoadKind}
 use Rattle.rv_table.specs.declared.operation.LoadKind.TheVariants.{Lb, Lh, Lw, Lbu, Lhu}
@@ -40,9 +41,6 @@ half_same x m P f g hf hg same l p =
           let e : 8 * ((y + 1) % 2) + (m - 8) ≡ m = omega arith in
           half_high (f y) (f (y + 1)) m (hf y) b ∙ same (y + 1) (m - 8) (accessed 2 x (y + 1) (omega arith)) (omega arith) (rw e p) ∙ sym (half_high (g y) (g (y + 1)) m (hg y) b)
     ]
-
-half_below : (x : ℕ) (f : ℕ → ℕ) → ((p : ℕ) → f p < 2 ^ 8) → half_at x f < 2 ^ 16
-half_below x f h = omega (arith, h (x / 2 * 2), h (x / 2 * 2 + 1))
 
 -- a word of four bytes
 as_bytes : (b : ℕ → ℕ) → word_of_bytes b ≡ from_le_bytes w32 (b 0 ∷ b 1 ∷ b 2 ∷ b 3 ∷ [])

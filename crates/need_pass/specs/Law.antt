@@ -6,6 +6,7 @@ use Rattle.elf_load.specs.Image.{LoadedImage, IsImage}
 use Rattle.rv_isa.specs.declared.effect.Retired.{Retired}
 use Rattle.rv_isa.specs.Accesses.{line_of, next_action, next_line}
 use Rattle.rv_isa.specs.Instruction.{State, end_of, instruction}
+use Rattle.rv_isa.specs.Words.{IsWords}
 use Rattle.rv_isa.specs.Runs.{ProgramTrace, IsTrace, trace_at}
 use Rattle.rv_table.specs.Actions.{access_of}
 use Rattle.rv_table.specs.Effects.{byte_put}
@@ -29,13 +30,6 @@ seen image at =
 unfoldable pub seen_of : LoadedImage → ℕ → State → List Seen
 seen_of image zero at = []
 seen_of image (suc n) at = seen image at ∷ seen_of image n (instruction image at)
-
--- The numbers of a state are of 32 bits, and its bytes of 8.
-pub record IsWords (at : State) : Type 0 where
-  pub registers : (r : ℕ) → at.registers r < 2 ^ 32
-  pub memory : (p : ℕ) → at.memory p < 2 ^ 8
-  pub count : at.count < 2 ^ 32
-  pub clocks : All (λ clock. clock < 2 ^ 32) at.clocks
 
 -- What need promises of a recorded run with these instructions, for every state that agrees with one of its states.
 pub record NeedLaw (image : LoadedImage) (clocks : List ℕ) (entries : List Retired) : Type 0 where

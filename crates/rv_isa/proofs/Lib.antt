@@ -5,6 +5,7 @@ pub mod Fetched
 pub mod Follows
 pub mod Lists
 pub mod Memory
+pub mod Ranges
 pub mod RunSteps
 pub mod Steps
 pub mod Stores

@@ -4,3 +4,4 @@ pub mod Architecture
 pub mod Effects
 pub mod Instruction
 pub mod Runs
+pub mod Words

@@ -9,6 +9,8 @@ pub mod Judged
 pub mod Lanes
 pub mod Lawful
 pub mod Loads
+pub mod Ranges
+pub mod Results
 pub mod RowLookups
 pub mod Signed
 pub mod Spelled

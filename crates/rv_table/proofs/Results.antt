@@ -2,7 +2,7 @@
 use Rattle.std.proofs.Common.{◌≡◌, ℕ, zero, suc, ◌+◌, ◌-◌, ◌*◌, ◌/◌, ◌%◌, ◌^◌, ◌<◌, ◌≤◌, ℤ, pos, negsuc, neg_ℤ, ◌*ℤ◌, Bool, true, false, cond, ltb, eqb, refl, arith, lit<, w32, w64, lt_of_le_of_lt}
 use Rattle.std.proofs.Math.Nat.{div-le_self, mod-le, mul-le-mul}
 use Rattle.std.proofs.lemmas.Int.{unsigned_abs-mul}
-use Rattle.std.proofs.lemmas.Nat.{div_below, xor_lt}
+use Rattle.std.proofs.lemmas.Nat.{div_below, shr_below, xor_lt}
 use Rattle.std.proofs.lemmas.Bool.Decides.{nat_tests}
 use Rattle.std.specs.Int.{cast_unsigned}
 use Rattle.std.specs.Int.RustNames.{int_div, int_rem, unsigned_abs}
@@ -11,7 +11,6 @@ use mir.Val.{sel}
 use Rattle.rv_table.specs.Arithmetic.{alu, signed, high_word, signed_order}
 use Rattle.rv_table.specs.declared.operation.AluKind.{AluKind}
 use Rattle.rv_table.specs.declared.operation.AluKind.TheVariants.{Add, Sub, Sll, Slt, Sltu, Xor, Srl, Sra, Or, And, Mul, Mulh, Mulhsu, Mulhu, Div, Divu, Rem, Remu}
-use Rattle.need_pass.proofs.SignedShift.{part_below}
 
 -- ---- signed numbers
 
@@ -49,6 +48,12 @@ high_below z h = omega (arith, double_of z h)
 
 product_abs : (x y : ℤ) (m n : ℕ) → unsigned_abs x ≤ m → unsigned_abs y ≤ n → m * n < 2 ^ 64 → unsigned_abs (x *ℤ y) < 2 ^ 64
 product_abs x y m n h g l = rw (unsigned_abs-mul x y) (lt_of_le_of_lt (mul-le-mul h g) l)
+
+-- what a shift to the right leaves of a word
+pub part_below : (a n : ℕ) → a < 2 ^ 32 → n < 32 → a / 2 ^ n < 2 ^ (32 - n)
+part_below a n h l =
+    let e : 32 - n + n ≡ 32 = omega arith in
+    shr_below a (32 - n) n (rw e h)
 
 -- ---- the operations
 
