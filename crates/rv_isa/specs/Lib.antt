@@ -5,3 +5,4 @@ pub mod Effects
 pub mod Instruction
 pub mod Runs
 pub mod Words
+pub mod WordsLaw
