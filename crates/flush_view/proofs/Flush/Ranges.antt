@@ -1,6 +1,6 @@
 -- The numbers of a flush are in their ranges.
-use Rattle.std.proofs.Common.{◌≡◌, ◌⊎◌, inl, inr, ◌≤◌, length, ℕ, zero, suc, ◌+◌, ◌*◌, ◌/◌, ◌%◌, ◌^◌, ◌<◌, Bool, true, false, List, [], ◌∷◌, map, arith, lit<, subst, sym}
-use Rattle.std.specs.Prelude.{None, ◌==◌, ◌&&◌, ◌-◌, not, slice_index, slice_index_or, if◌then◌else◌}
+use Rattle.std.proofs.Common.{◌⊎◌, inl, inr, ◌≤◌, length, ℕ, zero, suc, ◌^◌, ◌<◌, Bool, true, false, List, [], ◌∷◌, map, arith, lit<, subst, sym}
+use Rattle.std.specs.Prelude.{◌==◌, ◌-◌, slice_index, slice_index_or, if◌then◌else◌}
 use Rattle.std.specs.List.{All}
 use Rattle.std.proofs.Math.ListN.{get_or-eq_default}
 use Rattle.std.proofs.lemmas.Bool.{cases_lt}
@@ -8,12 +8,10 @@ use Rattle.std.proofs.lemmas.List.Elements.{All-filter, All-get_or, All-head, Al
 use Rattle.elf_load.specs.Image.{LoadedImage}
 use Rattle.inst_buf.specs.Buffer.{entries}
 use Rattle.inst_buf.specs.Entry.{Entry}
-use Rattle.inst_buf.specs.EntryBits as slot
 use Rattle.rv_table.specs.Effects.{written_register}
 use Rattle.rv_table.specs.Words.{decode}
 use Rattle.rv_table.specs.declared.action.Action.{Action}
-use Rattle.rv_isa.specs.Instruction.{State as Arch, Log, completed, given, put_reg, reg}
-use Rattle.rv_isa.specs.Words.{IsWords}
+use Rattle.rv_isa.specs.Instruction.{State as Arch, Log, completed, given, put_reg}
 use Rattle.rv_isa.proofs.Ranges.{given_below, operand_below, put_below, words_completed, words_performed}
 use Rattle.rv_table.proofs.Addresses.{next_address-below}
 use Rattle.rv_table.proofs.DecodedFields.{decode-imm}
@@ -27,11 +25,10 @@ use Rattle.cyc_machine.specs.InFlight.{Item, completed_item, is_reached, item_of
 use Rattle.cyc_machine.specs.Pipeline.{op_of_entry, register}
 use Rattle.cyc_machine.specs.Sizes.{HoldsBytes}
 use Rattle.cyc_machine.specs.State.{State}
-use Rattle.flush_view.specs.Flush.{before_latches, completed_path, flush, item_of_entry, latched, path, path_of}
+use Rattle.flush_view.specs.Flush.{before_latches, completed_path, flush, item_of_entry, latched, path}
 use Rattle.flush_view.specs.FlushParts.{InRange}
 use Rattle.flush_view.specs.Views.{view}
 use Rattle.flush_view.proofs.Flush.Operands.{written-by}
-use Rattle.flush_view.proofs.Memory.Given.{index_below}
 use Rattle.flush_view.proofs.Memory.ViewBytes.{view-below}
 
 -- ---- what the latches hold
@@ -173,7 +170,8 @@ module _ (s : State) (is : IsMachine s) (clocks : List ℕ) (below : All (λ clo
     where
       d_small : IsSmallItem (item_of_latch s.image (action_in_m s) s.w (view s) s.d)
       d_small =
-          latch-small s.image (action_in_m s) s.w (view s) s.d small (view-below s bytes) is.w.1.0 is.d.1.1.1.1.1.1.0 is.d.1.1.1.1.1.1.1.0 is.d.1.1.1.1.1.1.1.1.0
+          latch-small s.image (action_in_m s) s.w (view s) s.d small
+          (view-below s bytes) is.w.1.0 is.d.1.1.1.1.1.1.0 is.d.1.1.1.1.1.1.1.0 is.d.1.1.1.1.1.1.1.1.0
 
       go : (v : Bool) → All IsSmallItem (if v then item_of_latch s.image (action_in_m s) s.w (view s) s.d ∷ map item_of_entry (entries s.buffer)
           else map item_of_entry (entries s.buffer))
