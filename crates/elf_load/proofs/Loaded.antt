@@ -19,7 +19,7 @@ neither : (a b : Option ℕ) → option_or a b ≡ None → (a ≡ None) × (b �
 neither None b e = (refl, e)
 neither (Some k) b e = absurd (cc)
 
-accepted_parts : (file : List ℕ) (size : ℕ) → first_refusal file size ≡ None → (file_refusal file ≡ None) × (headers_refusal file ≡ None) × (layout_refusal (segments_of file) (entry_of file) size ≡ None)
+pub accepted_parts : (file : List ℕ) (size : ℕ) → first_refusal file size ≡ None → (file_refusal file ≡ None) × (headers_refusal file ≡ None) × (layout_refusal (segments_of file) (entry_of file) size ≡ None)
 unfolding first_refusal
 accepted_parts file size h =
     let first = neither _ _ h in

@@ -17,3 +17,4 @@ pub mod Spelled
 pub mod Stores
 pub mod TableLaws
 pub mod WordTable
+pub mod Writes

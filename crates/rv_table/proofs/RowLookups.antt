@@ -134,7 +134,7 @@ row_of-word w = go (matched w)
     go (inl e) = ap (λ (r : Row). row_of r.code) e ∙ illegal-found ∙ sym e
     go (inr (i, e, m)) = ap row_of (code-get i (row_of_word w) e) ∙ row_of-get i (row_of_word w) e
 
-matches-word : (p : Pattern) (w : ℕ) → matches p w ≡ true → has_word p ≡ true
+pub matches-word : (p : Pattern) (w : ℕ) → matches p w ≡ true → has_word p ≡ true
 matches-word NoWord w h = absurd cc
 matches-word (Opcode o) w h = refl
 matches-word (Funct3 o f) w h = refl

@@ -1,7 +1,7 @@
--- Every call keeps the lengths of the arrays and the widths of bytes and tags.
+-- Every call keeps the shape, the lengths of the arrays and the widths of bytes and tags.
 use Rattle.std.proofs.Common.{◌≡◌, ℕ, zero, suc, ◌+◌, ◌-◌, ◌*◌, ◌^◌, ◌<◌, Bool, true, false, cond, List, length, arith, refl, ◌++◌, take, drop}
 use Rattle.std.proofs.Math.ListN.{length-set, set}
-use Rattle.std.specs.List.{All, replace_range}
+use Rattle.std.specs.List.{replace_range}
 use Rattle.std.specs.Prelude.{Option, Some, None, ◌&&◌, slice_index, slice_index_or, slice_range, replicate}
 use Rattle.std.proofs.lemmas.List.Elements.{All-set, All-append, All-take, All-drop, All-replicate}
 use Rattle.bit_field.proofs.CacheShape.{tag_below}
@@ -9,7 +9,7 @@ use Rattle.bit_field.specs.Shapes.{tag_bits, slots as slot_count}
 use Rattle.elf_load.specs.Image.{LoadedImage, IsImage, in_ram}
 use Rattle.bit_field.specs.Lanes.{has_lane, lane_byte}
 use Rattle.wb_cache.specs.Access.{put, put_word, put_lane, touched, read, written, found, on_hit}
-use Rattle.wb_cache.specs.Contents.{Contents, IsContents, IsSized, slots, slot_of}
+use Rattle.wb_cache.specs.Contents.{AreBytes, Contents, IsContents, IsSized, slots, slot_of}
 use Rattle.wb_cache.specs.Lookup.{line_of, set_of, tag_of}
 use Rattle.wb_cache.specs.Refill.{filled, refilled, memory_refilled, line_bytes, place_of, put_line, way_for, written_back}
 use Rattle.wb_cache.proofs.Calls.{length-after_refill}
@@ -17,6 +17,24 @@ use Rattle.wb_cache.proofs.Lengths.{sized-same, length-used, length-put_word, le
 use Rattle.wb_cache.proofs.Ram.{length-line_bytes}
 use Rattle.wb_cache.proofs.Sizes.{set_below, slot_below}
 use Rattle.wb_cache.proofs.Victims.{victim-below}
+
+-- ---- the shape
+
+hit-shape : (c : Contents) (change : ℕ → Contents) (o : Option ℕ) → ((w : ℕ) → (change w).shape ≡ c.shape) → (on_hit o change c).shape ≡ c.shape
+hit-shape c change (Some w) same = same w
+hit-shape c change None same = refl
+
+pub shape-after_read : (c : Contents) (line : ℕ) → (read line c).shape ≡ c.shape
+unfolding read
+shape-after_read c line = hit-shape c _ (found c line) (λ w. refl)
+
+pub shape-after_write : (c : Contents) (line word mask value : ℕ) → (written line word mask value c).shape ≡ c.shape
+unfolding written put
+shape-after_write c line word mask value = hit-shape c _ (found c line) (λ w. refl)
+
+pub shape-after_refill : (image : LoadedImage) (line : ℕ) (memory : List ℕ) (c : Contents) → (refilled image line memory c).shape ≡ c.shape
+unfolding refilled filled
+shape-after_refill image line memory c = refl
 
 -- ---- lengths
 
@@ -55,9 +73,6 @@ sized-after_refill image line memory c is long sized =
     filled-sized image line (way_for c line) (memory_refilled image line c memory) c is (length-after_refill image line memory c is long sized) (victim-below c.shape (slots c) c.nodes (set_of c.shape line) sized.shape) sized
 
 -- ---- bytes
-
-abbrev pub AreBytes : List ℕ → Type 0
-AreBytes xs = All (λ b. b < 2 ^ 8) xs
 
 lane_byte-below : (value lane : ℕ) → lane_byte value lane < 2 ^ 8
 lane_byte-below value zero = omega arith

@@ -6,37 +6,19 @@ use Rattle.std.proofs.lemmas.Bool.{cases_eq, cases_lt}
 use Rattle.std.proofs.lemmas.Bool.Decides.{nat_tests}
 use Rattle.std.proofs.lemmas.List.{get_or-replicate}
 use Rattle.elf_load.specs.Image.{LoadedImage, IsImage, in_ram, ram_byte}
+use Rattle.elf_load.proofs.InRam.{in_ram-bounds, in_ram-line}
 use Rattle.wb_cache.specs.Refill.{line_bytes, put_line, place_of}
 use Rattle.wb_cache.proofs.Lengths.{length-replace}
 use Rattle.wb_cache.proofs.Ranges.{length-range, range-read, replaced-in, replaced-off}
 
-pub in_ram-from : (image : LoadedImage) (a : ℕ) → in_ram image a ≡ true → (image.base ≤ a) × (a < image.base + length image.ram)
-unfolding in_ram
-in_ram-from image a h = grind (arith, nat_tests)
-
-pub in_ram-to : (image : LoadedImage) (a : ℕ) → image.base ≤ a → a < image.base + length image.ram → in_ram image a ≡ true
-unfolding in_ram
-in_ram-to image a h l = grind (arith, nat_tests)
-
 pub line_from : (image : LoadedImage) (line : ℕ) → in_ram image (16 * line) ≡ true → image.base ≤ 16 * line
-line_from image line h = (in_ram-from image (16 * line) h).0
+line_from image line h = (in_ram-bounds image (16 * line) h).0
 
 pub line_to : (image : LoadedImage) (line : ℕ) → IsImage image → in_ram image (16 * line) ≡ true → 16 * line + 16 ≤ image.base + length image.ram
-line_to image line is h = omega (arith, is.aligned, is.blocks, (in_ram-from image (16 * line) h).1)
-
-whole_by : (image : LoadedImage) (line o : ℕ) (b d : Bool) → IsImage image → o < 16 → in_ram image (16 * line + o) ≡ b → in_ram image (16 * line) ≡ d → b ≡ d
-whole_by image line o true true is h e f = refl
-whole_by image line o false false is h e f = refl
-whole_by image line o false true is h e f =
-    let from = line_from image line f in
-    let to = line_to image line is f in
-    absurd (cc (in_ram-to image (16 * line + o) (omega arith) (omega arith)))
-whole_by image line o true false is h e f =
-    let within = in_ram-from image (16 * line + o) e in
-    absurd (cc (in_ram-to image (16 * line) (omega (arith, is.aligned, within.0)) (omega (arith, within.1))))
+line_to image line is h = omega (arith, is.aligned, is.blocks, (in_ram-bounds image (16 * line) h).1)
 
 pub line-whole : (image : LoadedImage) (line o : ℕ) → IsImage image → o < 16 → in_ram image (16 * line + o) ≡ in_ram image (16 * line)
-line-whole image line o is h = whole_by image line o (in_ram image (16 * line + o)) (in_ram image (16 * line)) is h refl refl
+line-whole image line o is h = in_ram-line image (16 * line + o) (16 * line) is (omega arith)
 
 -- the bytes of a line in main memory
 pub length-line_bytes : (image : LoadedImage) (line : ℕ) (memory : List ℕ) → IsImage image → length memory ≡ length image.ram → length (line_bytes image line memory) ≡ 16
@@ -60,7 +42,7 @@ put_off : (image : LoadedImage) (line p : ℕ) (bytes memory : List ℕ) → IsI
 put_off image line p bytes memory is long sixteen e f ne =
     let from = line_from image line e in
     let to = line_to image line is e in
-    let within = in_ram-from image p f in
+    let within = in_ram-bounds image p f in
     replaced-off memory bytes (place_of image line) (place_of image line + 16) (p - image.base) (omega arith) (omega arith)
     (elim (cases_lt p (16 * line)) [ inl l ↦ inl (omega (arith, within.0)) | inr l ↦ inr (omega (arith, within.0)) ])
 
