@@ -170,7 +170,8 @@ module _ (s : State) (is : IsMachine s) (clocks : List ℕ) (below : All (λ clo
     where
       d_small : IsSmallItem (item_of_latch s.image (action_in_m s) s.w (view s) s.d)
       d_small =
-          latch-small s.image (action_in_m s) s.w (view s) s.d small (view-below s bytes) is.w.1.0 is.d.1.1.1.1.1.1.0 is.d.1.1.1.1.1.1.1.0 is.d.1.1.1.1.1.1.1.1.0
+          latch-small s.image (action_in_m s) s.w (view s) s.d small
+          (view-below s bytes) is.w.1.0 is.d.1.1.1.1.1.1.0 is.d.1.1.1.1.1.1.1.0 is.d.1.1.1.1.1.1.1.1.0
 
       go : (v : Bool) → All IsSmallItem (if v then item_of_latch s.image (action_in_m s) s.w (view s) s.d ∷ map item_of_entry (entries s.buffer)
           else map item_of_entry (entries s.buffer))
