@@ -29,7 +29,7 @@ use Rattle.cyc_machine.specs.Pipeline.{op_of_entry, register}
 use Rattle.cyc_machine.specs.Sizes.{HoldsBytes}
 use Rattle.cyc_machine.specs.State.{State}
 use Rattle.flush_view.specs.Flush.{before_latches, completed_path, flush, item_of_entry, latched, path}
-use Rattle.flush_view.specs.FlushParts.{InRange}
+use Rattle.flush_view.specs.FlushInputs.{InRange}
 use Rattle.flush_view.specs.Views.{view}
 use Rattle.flush_view.proofs.Flush.Operands.{written-by}
 use Rattle.flush_view.proofs.Memory.ViewBytes.{view-below}
