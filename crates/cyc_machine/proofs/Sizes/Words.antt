@@ -22,6 +22,8 @@ use Rattle.rv_table.specs.declared.operation.Operation.TheVariants.{Lui, Auipc, 
 use Rattle.rv_table.specs.declared.operation.StoreKind.{StoreKind}
 use Rattle.rv_table.specs.declared.operation.StoreKind.TheVariants.{Sb, Sh, Sw}
 use Rattle.rv_table.proofs.Lanes.{byte_stored, half_stored, word_stored}
+use Rattle.rv_table.proofs.Ranges.{counter_below, loaded_below}
+use Rattle.rv_table.proofs.Results.{alu_below}
 use Rattle.pipe_latch.specs.DecodedBits as idex
 use Rattle.pipe_latch.specs.Execution.{executed}
 use Rattle.pipe_latch.specs.ExecutedBits as exmem
@@ -53,7 +55,6 @@ use Rattle.cyc_machine.specs.State.{State, reset}
 use Rattle.cyc_machine.proofs.RunsOn.{numbered}
 use Rattle.cyc_machine.proofs.Sizes.Flipped.{flip-keeps, in-range, made}
 use Rattle.cyc_machine.proofs.Sizes.Lasting.{contents, machine-reset, machine-steady, steady-next}
-use Rattle.cyc_machine.proofs.Sizes.Results.{alu_below, loaded_below}
 
 abbrev IsWord : ℕ → Type 0
 IsWord v = v < 2 ^ 32
@@ -189,13 +190,9 @@ fate-words d npc m w goes h g a b =
     (either-fate (d.count == 0 && goes) (goes_with (operand m w d.rs1 d.a) (operand_b d m w)) Stays
     (goes-words (operand m w d.rs1 d.a) (operand_b d m w) (operand-word m w d.rs1 d.a h g a) (operand_b-word d m w h g b)) tt) tt) tt
 
-counter-word : (o : Operation) (clock count b : ℕ) → IsWord clock → IsWord count → IsWord b → IsWord (counter_by o clock count b)
-unfolding counter_by
-counter-word o clock count b h g l = grind arith
-
 counted-word : (d : DecodedLatch) (clock issued b : ℕ) → IsWord clock → IsWord issued → IsWord b → IsWord (counted d clock issued b)
 unfolding counted with_counter
-counted-word d clock issued b h g l = counter-word (operation_of d.op) clock issued b h g l
+counted-word d clock issued b h g l = counter_below (operation_of d.op) clock issued b h g l
 
 -- ---- the next latches
 
