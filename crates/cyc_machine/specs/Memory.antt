@@ -1,5 +1,6 @@
 -- The memory side of one cycle: who asks for the cache, what the port does, and whether the memory stage is done.
-use Rattle.std.specs.Prelude.{◌≡◌, ◌<◌, ◌^◌, ⊤, ℕ, ◌/◌, ◌%◌, ◌==◌, ◌&&◌, Bool, true, false, not, nat_lt, if◌then◌else◌, List, [], ◌∷◌, ◌++◌, length, Option, Some, None, pred}
+use Rattle.std.specs.Prelude.{◌≡◌, ◌<◌, ◌^◌, ⊤, ℕ, ◌/◌, ◌%◌, ◌==◌, ◌&&◌, Bool, true, false, not, nat_lt, if◌then◌else◌, List, [], ◌∷◌, ◌++◌, length}
+use Rattle.std.specs.Prelude.{Option, Some, None, pred}
 use Rattle.elf_load.specs.Image.{LoadedImage, word_in_ram}
 use Rattle.rv_table.specs.Accesses.{byte_of, lane_mask, load_size, loaded, store_size, store_word}
 use Rattle.rv_table.specs.Effects.{written_register}

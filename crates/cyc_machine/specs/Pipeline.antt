@@ -1,5 +1,6 @@
 -- The pipeline in one cycle: what becomes of ID/EX, and the next value of each part by one equation over the old state.
-use Rattle.std.specs.Prelude.{ℕ, ◌-◌, ◌==◌, ◌&&◌, Bool, true, false, nat_lt, if◌then◌else◌, List, [], ◌∷◌, ◌++◌, length, Option, Some, None, pred, drop, slice_get, slice_index, slice_set}
+use Rattle.std.specs.Prelude.{ℕ, ◌-◌, ◌==◌, ◌&&◌, Bool, true, false, nat_lt, if◌then◌else◌, List, [], ◌∷◌, ◌++◌, length, Option, Some, None, pred, drop}
+use Rattle.std.specs.Prelude.{slice_get, slice_index, slice_set}
 use Rattle.elf_load.specs.Image.{LoadedImage, fetch}
 use Rattle.rv_table.specs.Actions.{is_counter, with_counter}
 use Rattle.rv_table.specs.Operations.{delay_of}

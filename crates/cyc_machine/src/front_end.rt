@@ -170,5 +170,9 @@ fn if_room(remaining: u32, predicted: u32, pc: u32) -> u32
     ensures next { result ≡ pipeline.if_room remaining predicted pc }
     ensures within { predicted < 2 ^ 30 → pc < 2 ^ 30 → result < 2 ^ 30 }
 {
-    if remaining < SLOTS as u32 { predicted } else { pc }
+    if remaining < SLOTS as u32 {
+        predicted
+    } else {
+        pc
+    }
 }

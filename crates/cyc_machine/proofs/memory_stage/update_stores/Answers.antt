@@ -23,4 +23,6 @@ returns c =
     ap pending c.leave.ensures ∙ pending-kept c.args.image.now c.args.motion.now c.args.stores.now in
     c.append.ensures
     ∙ ap (λ es. packed (es ++ appended c.args.image.now c.args.action.now (nat_lt c.len.result 4))) kept
-    ∙ ap (λ n. packed (kept_stores c.args.image.now c.args.motion.now (pending c.args.stores.now) ++ appended c.args.image.now c.args.action.now (nat_lt n 4))) c.len.ensures
+    ∙ ap
+    (λ n. packed (kept_stores c.args.image.now c.args.motion.now (pending c.args.stores.now)
+    ++ appended c.args.image.now c.args.action.now (nat_lt n 4))) c.len.ensures
