@@ -1,0 +1,2 @@
+pub mod CleanCycle
+pub mod Struck
