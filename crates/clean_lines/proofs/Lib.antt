@@ -1,6 +1,7 @@
 mod BytesRead
 mod DataCycles
 mod DataMoves
+mod DataRuns
 mod Lists
 mod Moves
 mod OtherBytes

@@ -1,2 +1,3 @@
 pub mod CleanCycle
+pub mod CleanRun
 pub mod Struck

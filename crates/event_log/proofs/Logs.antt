@@ -141,3 +141,19 @@ pub first-passes : (test : CacheEvent → Bool) (t : ℕ) (es : List CacheEvent)
 unfolding first_event
 first-passes test t [] = tt
 first-passes test t (e ∷ es) = passes-more test e (first_event test t es) (nat_le t e.cycle) (test e) refl (first-passes test t es)
+
+-- one event more
+abbrev pub or_event : Option CacheEvent → Bool → CacheEvent → Option CacheEvent
+or_event (Some a) b e = Some a
+or_event None b e = cond b (Some e) None
+
+push-more : (a : CacheEvent) (r q : Option CacheEvent) (b c : Bool) (e : CacheEvent) → r ≡ or_event q c e → cond b (Some a) r ≡ or_event (cond b (Some a) q) c e
+push-more a r q true c e h = refl
+push-more a r q false c e h = h
+
+pub first-push : (test : CacheEvent → Bool) (t : ℕ) (es : List CacheEvent) (e : CacheEvent) →
+    first_event test t (es ++ e ∷ []) ≡ or_event (first_event test t es) (nat_le t e.cycle && test e) e
+unfolding first_event
+first-push test t [] e = refl
+first-push test t (a ∷ es) e =
+    push-more a (first_event test t (es ++ e ∷ [])) (first_event test t es) (nat_le t a.cycle && test a) (nat_le t e.cycle && test e) e (first-push test t es e)
