@@ -118,7 +118,7 @@ module _ (s : State) (k : ℕ) (is : IsSteady s) (below : k < slot_count s.cache
   unfolding slot_at
   not-dirty = clean.clean
 
-  struck-is : data_struck s k ≡ record s { cache = d }
+  struck-is : data_struck k s ≡ record s { cache = d }
   struck-is = ap (λ i. record s { cache = record c { bytes = slice_set c.bytes i x } }) place
 
   moves : move (record s { cache = d }) ≡ move s
@@ -143,7 +143,7 @@ module _ (s : State) (k : ℕ) (is : IsSteady s) (below : k < slot_count s.cache
       ap (λ (v : Move). served s.image (action_in_m s) (pending s.stores) (word_read v d)) moves
       ∙ served-alike s.image (action_in_m s) (pending s.stores) d c (move s) bytes-fit is.bytes.cache h
 
-  same : ReadsAlike d c (action_in_m s) (move s) → SameCycle s (data_struck s k)
+  same : ReadsAlike d c (action_in_m s) (move s) → SameCycle s (data_struck k s)
   same h = subst (λ (u : State). SameCycle s u) (sym struck-is) (same-other s d moves (serves h) refl)
 
   next-long : 16 * l + byte < length (cycle s).cache.bytes
@@ -157,7 +157,7 @@ module _ (s : State) (k : ℕ) (is : IsSteady s) (below : k < slot_count s.cache
           ∙ ap (λ (a : Contents). a.bytes) (h.cache (slice_index_or c.bytes (16 * l + byte) 0)) in
       rw place (ap (λ (bs : List ℕ). slice_index_or bs (16 * l + byte) 0) e ∙ get_or-set_same (cycle s).cache.bytes (16 * l + byte) (slice_index_or c.bytes (16 * l + byte) 0) 0 next-long)
 
-  kept : Keeps (move s) → cycle (data_struck s k) ≡ data_struck (cycle s) k
+  kept : Keeps (move s) → cycle (data_struck k s) ≡ data_struck k (cycle s)
   unfolding cycled
   kept h =
       ap (λ (u : State). cycle u) struck-is
@@ -167,7 +167,7 @@ module _ (s : State) (k : ℕ) (is : IsSteady s) (below : k < slot_count s.cache
       ∙ ap (λ i. record (cycle s) { cache = record (cycle s).cache { bytes = slice_set (cycle s).cache.bytes i x } }) (sym place)
       ∙ ap (λ v. record (cycle s) { cache = record (cycle s).cache { bytes = slice_set (cycle s).cache.bytes (k / 8) (flipped v) } }) (sym (next-byte h))
 
-  settled : Settles (move s) → cycle (data_struck s k) ≡ cycle s
+  settled : Settles (move s) → cycle (data_struck k s) ≡ cycle s
   unfolding cycled
   settled h =
       ap (λ (u : State). cycle u) struck-is
@@ -180,13 +180,13 @@ module _ (s : State) (k : ℕ) (is : IsSteady s) (below : k < slot_count s.cache
     held : IsHeld (cycle s).cache l (held_then s l (Clean (line_at c l)) (event_by v (action_in_m s) s.cycle c))
     held = subst (λ (v : Move). IsHeld (cycle s).cache l (held_then s l (Clean (line_at c l)) (event_by v (action_in_m s) s.cycle c))) e (held-cycle s l is slot-below clean)
 
-    in-step : Keeps v → IsCleanSlot (cycle s).cache l → SameCycle s (data_struck s k) × (cycle (data_struck s k) ≡ data_struck (cycle s) k) × IsCleanSlot (cycle s).cache l
+    in-step : Keeps v → IsCleanSlot (cycle s).cache l → SameCycle s (data_struck k s) × (cycle (data_struck k s) ≡ data_struck k (cycle s)) × IsCleanSlot (cycle s).cache l
     in-step h stays = let h = subst Keeps (sym e) h in (same h.reads, kept h, stays)
 
-    goes-dirty : Keeps v → IsDirtySlot (cycle s).cache l → SameCycle s (data_struck s k) × (cycle (data_struck s k) ≡ data_struck (cycle s) k) × IsDirtySlot (cycle s).cache l
+    goes-dirty : Keeps v → IsDirtySlot (cycle s).cache l → SameCycle s (data_struck k s) × (cycle (data_struck k s) ≡ data_struck k (cycle s)) × IsDirtySlot (cycle s).cache l
     goes-dirty h dirty = let h = subst Keeps (sym e) h in (same h.reads, kept h, dirty)
 
-    ends : Settles v → SameCycle s (data_struck s k) × (cycle (data_struck s k) ≡ cycle s)
+    ends : Settles v → SameCycle s (data_struck k s) × (cycle (data_struck k s) ≡ cycle s)
     ends h = let h = subst Settles (sym e) h in (same h.reads, settled h)
 
   abbrev Told : Move → Type 0

@@ -51,25 +51,25 @@ module _ (s : State) (k : ℕ) where
   abbrev byte : ℕ
   byte = k % 128 / 8
 
-  step-on : (n : ℕ) → IsInStep n s k → SameCycle (state_after n s) (data_struck (state_after n s) k) → cycle (data_struck (state_after n s) k) ≡ data_struck (cycle (state_after n s)) k
-      → IsInStep (suc n) s k
+  step-on : (n : ℕ) → IsInStep n s (data_struck k) → SameCycle (state_after n s) (data_struck k (state_after n s)) → cycle (data_struck k (state_after n s)) ≡ data_struck k (cycle (state_after n s))
+      → IsInStep (suc n) s (data_struck k)
   unfolding state_after
   step-on n h same e = record {
-    same = same-more n s (data_struck s k) h.same (subst (λ (v : State). SameCycle (state_after n s) v) (sym h.state) same);
+    same = same-more n s (data_struck k s) h.same (subst (λ (v : State). SameCycle (state_after n s) v) (sym h.state) same);
     state = ap cycle h.state ∙ e;
   }
 
-  settle-on : (n : ℕ) → IsInStep n s k → SameCycle (state_after n s) (data_struck (state_after n s) k) → cycle (data_struck (state_after n s) k) ≡ cycle (state_after n s)
-      → IsSettled (suc n) s (data_struck s k)
+  settle-on : (n : ℕ) → IsInStep n s (data_struck k) → SameCycle (state_after n s) (data_struck k (state_after n s)) → cycle (data_struck k (state_after n s)) ≡ cycle (state_after n s)
+      → IsSettled (suc n) s (data_struck k s)
   unfolding state_after
   settle-on n h same e = record {
-    same = same-more n s (data_struck s k) h.same (subst (λ (v : State). SameCycle (state_after n s) v) (sym h.state) same);
+    same = same-more n s (data_struck k s) h.same (subst (λ (v : State). SameCycle (state_after n s) v) (sym h.state) same);
     state = ap cycle h.state ∙ e;
   }
 
   -- what holds by the first event so far that concerns the byte
   abbrev RunBy : ℕ → Option CacheEvent → Type 0
-  RunBy n None = IsInStep n s k × IsCleanSlot (state_after n s).cache l
+  RunBy n None = IsInStep n s (data_struck k) × IsCleanSlot (state_after n s).cache l
   RunBy n (Some e) = (concerns s.cache.shape l byte e ≡ true) × DataRunBy n s k (told_by e.kind (holds_byte byte e) e.cycle)
 
   -- a miss concerns no byte
@@ -79,13 +79,13 @@ module _ (s : State) (k : ℕ) where
 
   later : (n : ℕ) (e : CacheEvent) (kind : EventKind) (a h : Bool) → (a && concerns_by kind h) ≡ true → DataRunBy n s k (told_by kind h e.cycle) → DataRunBy (suc n) s k (told_by kind h e.cycle)
   later n e Read a h c run = run
-  later n e Write a true c run = settled-more n s (data_struck s k) run
+  later n e Write a true c run = settled-more n s (data_struck k s) run
   later n e Write a false c run = run
-  later n e Fill a h c run = settled-more n s (data_struck s k) run
+  later n e Fill a h c run = settled-more n s (data_struck k s) run
   later n e Miss a h c run = absurd (no-miss a h c)
 
   -- the cycle of the event
-  now : (n : ℕ) (e : CacheEvent) (kind : EventKind) (a h : Bool) → (a && concerns_by kind h) ≡ true → e.cycle ≡ s.cycle + n → IsInStep n s k
+  now : (n : ℕ) (e : CacheEvent) (kind : EventKind) (a h : Bool) → (a && concerns_by kind h) ≡ true → e.cycle ≡ s.cycle + n → IsInStep n s (data_struck k)
       → DataCycleBy (state_after n s) k (told_by kind h e.cycle) → DataRunBy (suc n) s k (told_by kind h e.cycle)
   unfolding state_after
   now n e Read a h c at run one = let f : e.cycle - s.cycle ≡ n = omega arith in rw f run

@@ -6,4 +6,5 @@ mod Lists
 mod Moves
 mod OtherBytes
 mod OtherCache
+mod OtherTags
 mod Stays

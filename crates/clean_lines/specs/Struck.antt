@@ -10,12 +10,12 @@ use Rattle.cyc_machine.specs.State.{State}
 use Rattle.cyc_machine.specs.Strikes.{flip_at_place}
 
 -- Data bit k is bit k % 8 of byte k % 128 / 8 of line slot k / 128.
-abbrev pub data_struck : State → ℕ → State
-data_struck s k = flip_at_place s (record { structure = CData; bit = k })
+abbrev pub data_struck : ℕ → State → State
+data_struck k s = flip_at_place s (record { structure = CData; bit = k })
 
 -- Tag bit k is bit k % width of the tag of line slot k / width, where width is the number of bits of a tag.
-abbrev pub tag_struck : State → ℕ → State
-tag_struck s k = flip_at_place s (record { structure = CTag; bit = k })
+abbrev pub tag_struck : ℕ → State → State
+tag_struck k s = flip_at_place s (record { structure = CTag; bit = k })
 
 -- a line slot that holds a line, clean or dirty
 pub record IsCleanSlot (c : Contents) (l : ℕ) : Type 0 where
