@@ -8,3 +8,5 @@ mod OtherBytes
 mod OtherCache
 mod OtherTags
 mod Stays
+mod TagCycles
+mod TagMoves
