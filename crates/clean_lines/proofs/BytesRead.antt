@@ -1,5 +1,6 @@
 -- A load takes the bytes of its lanes alone: caches that agree on them serve it alike.
-use Rattle.std.proofs.Common.{◌≡◌, ◌⊎◌, inl, inr, ℕ, ◌+◌, ◌*◌, ◌/◌, ◌%◌, ◌^◌, ◌<◌, ◌≤◌, Bool, true, false, cond, List, length, lit<, refl, sym, ◌∙◌, ap, arith, subst}
+use Rattle.std.proofs.Common.{◌≡◌, ◌⊎◌, inl, inr, ℕ, ◌+◌, ◌*◌, ◌/◌, ◌%◌, ◌^◌, ◌<◌, ◌≤◌, Bool, true, false, cond, List, length, lit<, refl, sym, ◌∙◌}
+use Rattle.std.proofs.Common.{ap, arith, subst}
 use Rattle.std.specs.Prelude.{⊤, Option, Some, None, ◌==◌, ◌&&◌, nat_lt, slice_index, if◌then◌else◌}
 use Rattle.std.specs.List.{All}
 use Rattle.std.proofs.Math.ListN.{get_or-eq_default}
@@ -70,7 +71,8 @@ loaded-lanes kind x word a b p q same =
     loaded-same kind x (λ n. byte_of (word_at a word) (n % 4)) (λ n. byte_of (word_at b word) (n % 4))
     (λ n acc. byte-read a word (n % 4) p (omega arith) ∙ same (n % 4) (omega arith) (named kind x n acc) ∙ sym (byte-read b word (n % 4) q (omega arith)))
 
-covered-same : (o : Cover) (kind : LoadKind) (x : ℕ) (r q : Option ℕ) → value_read r kind x ≡ value_read q kind x → covered_value o r kind x ≡ covered_value o q kind x
+covered-same : (o : Cover) (kind : LoadKind) (x : ℕ) (r q : Option ℕ) → value_read r kind x ≡ value_read q kind x
+    → covered_value o r kind x ≡ covered_value o q kind x
 covered-same (Full word) kind x r q e = refl
 covered-same Part kind x r q e = refl
 covered-same Uncovered kind x r q e = e
@@ -89,7 +91,8 @@ load-same image kind x stores r q e = go (word_in_ram image (x / 4))
 module _ (image : LoadedImage) (stores : List Entry) (a b : Slot) (word : ℕ) (p : (o : ℕ) → a.bytes o < 256) (q : (o : ℕ) → b.bytes o < 256) where
   word-served : (m : Action) → AgreeOn (lanes_of m) word a b → served image m stores (Some (word_at a word)) ≡ served image m stores (Some (word_at b word))
   unfolding served
-  word-served (Loads kind rd x) same = ap served_by (load-same image kind x stores (Some (word_at a word)) (Some (word_at b word)) (ap Some (loaded-lanes kind x word a b p q same)))
+  word-served (Loads kind rd x) same =
+      ap served_by (load-same image kind x stores (Some (word_at a word)) (Some (word_at b word)) (ap Some (loaded-lanes kind x word a b p q same)))
   word-served Nothing same = refl
   word-served (Writes rd v) same = refl
   word-served (Stores kind x y) same = refl
@@ -103,7 +106,8 @@ ReadsAlike d c m (Reads word way) =
     (found d (word / 4) ≡ Some way) × (found c (word / 4) ≡ Some way) × (d.shape ≡ c.shape) × AgreeOn (lanes_of m) (word % 4) (slots d (set_of c.shape (word / 4)) way) (slots c (set_of c.shape (word / 4)) way)
 ReadsAlike d c m _ = ⊤
 
-pub served-alike : (image : LoadedImage) (m : Action) (stores : List Entry) (d c : Contents) (v : Move) → All (λ b. b < 2 ^ 8) d.bytes → All (λ b. b < 2 ^ 8) c.bytes
+pub served-alike : (image : LoadedImage) (m : Action) (stores : List Entry) (d c : Contents) (v : Move) → All (λ b. b < 2 ^ 8) d.bytes
+    → All (λ b. b < 2 ^ 8) c.bytes
     → ReadsAlike d c m v → served image m stores (word_read v d) ≡ served image m stores (word_read v c)
 unfolding word_read
 served-alike image m stores d c (Reads word way) p q h =

@@ -47,7 +47,8 @@ clean-either c l line true h = clean-held c l line h
 clean-either c l line false h = clean-held c l line h
 
 -- the lanes of a word of a slot that is another one, or of another word, or that don't name the byte
-off-lanes : (slot l word byte mask lane : ℕ) → (slot == l && (word == byte / 4 && has_lane mask (byte % 4))) ≡ false → lane < 4 → has_lane mask lane ≡ true → slot ≡ l → 4 * word + lane ≡ byte → ⊥
+off-lanes : (slot l word byte mask lane : ℕ) → (slot == l && (word == byte / 4 && has_lane mask (byte % 4))) ≡ false → lane < 4
+    → has_lane mask lane ≡ true → slot ≡ l → 4 * word + lane ≡ byte → ⊥
 off-lanes slot l word byte mask lane off m on p q =
     let at : lane ≡ byte % 4 = omega arith in
     let named : has_lane mask (byte % 4) ≡ true = ap (has_lane mask) (sym at) ∙ on in
@@ -180,10 +181,12 @@ module _ (s : State) (k : ℕ) (is : IsSteady s) (below : k < slot_count s.cache
     held : IsHeld (cycle s).cache l (held_then s l (Clean (line_at c l)) (event_by v (action_in_m s) s.cycle c))
     held = subst (λ (v : Move). IsHeld (cycle s).cache l (held_then s l (Clean (line_at c l)) (event_by v (action_in_m s) s.cycle c))) e (held-cycle s l is slot-below clean)
 
-    in-step : Keeps v → IsCleanSlot (cycle s).cache l → SameCycle s (data_struck k s) × (cycle (data_struck k s) ≡ data_struck k (cycle s)) × IsCleanSlot (cycle s).cache l
+    in-step : Keeps v → IsCleanSlot (cycle s).cache l
+        → SameCycle s (data_struck k s) × (cycle (data_struck k s) ≡ data_struck k (cycle s)) × IsCleanSlot (cycle s).cache l
     in-step h stays = let h = subst Keeps (sym e) h in (same h.reads, kept h, stays)
 
-    goes-dirty : Keeps v → IsDirtySlot (cycle s).cache l → SameCycle s (data_struck k s) × (cycle (data_struck k s) ≡ data_struck k (cycle s)) × IsDirtySlot (cycle s).cache l
+    goes-dirty : Keeps v → IsDirtySlot (cycle s).cache l
+        → SameCycle s (data_struck k s) × (cycle (data_struck k s) ≡ data_struck k (cycle s)) × IsDirtySlot (cycle s).cache l
     goes-dirty h dirty = let h = subst Keeps (sym e) h in (same h.reads, kept h, dirty)
 
     ends : Settles v → SameCycle s (data_struck k s) × (cycle (data_struck k s) ≡ cycle s)
@@ -204,7 +207,8 @@ module _ (s : State) (k : ℕ) (is : IsSteady s) (below : k < slot_count s.cache
   read-by : (word way : ℕ) → move s ≡ Reads word way → Tells c load store (Reads word way) → Told (Reads word way)
   read-by word way e t = go (slot_of c.shape (set_of c.shape (word / 4)) way == l) (word % 4 == byte / 4 && has_lane (lanes_of (action_in_m s)) (byte % 4)) refl (held (Reads word way) e)
     where
-      keeps : (slot_of c.shape (set_of c.shape (word / 4)) way == l && (word % 4 == byte / 4 && has_lane (lanes_of (action_in_m s)) (byte % 4))) ≡ false → Keeps (Reads word way)
+      keeps : (slot_of c.shape (set_of c.shape (word / 4)) way == l && (word % 4 == byte / 4 && has_lane (lanes_of (action_in_m s)) (byte % 4))) ≡ false
+          → Keeps (Reads word way)
       keeps off = unfold cache_after in unfold memory_after in record {
         cache = λ y. read-kept s.image s.memory c l byte y is.image is.memory is.cache slot-below (omega arith) not-dirty (word / 4) way t.1;
         memory = refl;
@@ -212,7 +216,8 @@ module _ (s : State) (k : ℕ) (is : IsSteady s) (below : k < slot_count s.cache
           λ lane m on. byte-off c l byte x (set_of c.shape (word / 4)) way (4 * (word % 4) + lane) (omega arith)
           (λ p q. off-lanes (slot_of c.shape (set_of c.shape (word / 4)) way) l (word % 4) byte (lanes_of (action_in_m s)) lane off m on p q));
       }
-      go : (a h : Bool) → (slot_of c.shape (set_of c.shape (word / 4)) way == l && (word % 4 == byte / 4 && has_lane (lanes_of (action_in_m s)) (byte % 4))) ≡ (a && h)
+      go : (a h : Bool)
+          → (slot_of c.shape (set_of c.shape (word / 4)) way == l && (word % 4 == byte / 4 && has_lane (lanes_of (action_in_m s)) (byte % 4))) ≡ (a && h)
           → IsHeld (cycle s).cache l (if a then Clean (line_at c l) else Clean (line_at c l))
           → DataCycleBy s k (if a && h then told_by Read h s.cycle else Ends)
       go true true off g = tt
@@ -276,7 +281,8 @@ module _ (s : State) (k : ℕ) (is : IsSteady s) (below : k < slot_count s.cache
       go : (a : Bool) → (slot_of c.shape (set_of c.shape m) way == l) ≡ a → IsHeld (cycle s).cache l (if a then Clean m else Clean (line_at c l))
           → DataCycleBy s k (if a && true then told_by Fill (0 == byte / 4 && has_lane 0 (byte % 4)) s.cycle else Ends)
       go true p g = ends (Fills m way) e (settles (sym at ∙ eqb-true (slot_of c.shape (set_of c.shape m) way) l p))
-      go false p g = in-step (Fills m way) e (keeps (λ q. other-slot (slot_of c.shape (set_of c.shape m) way) l p (at ∙ q))) (clean-held (cycle s).cache l (line_at c l) g)
+      go false p g =
+          in-step (Fills m way) e (keeps (λ q. other-slot (slot_of c.shape (set_of c.shape m) way) l p (at ∙ q))) (clean-held (cycle s).cache l (line_at c l) g)
 
   by-move : (v : Move) → move s ≡ v → Tells c load store v → Told v
   by-move Rests e t = in-step Rests e still.0 (clean-held (cycle s).cache l (line_at c l) (held Rests e))

@@ -1,5 +1,6 @@
 -- A byte of a clean line slot is another one: what a move of the port makes of the cache, and that main memory is the same.
-use Rattle.std.proofs.Common.{◌≡◌, ◌≢◌, ◌⊎◌, inl, inr, ℕ, ◌+◌, ◌*◌, ◌/◌, ◌%◌, ◌<◌, ◌≤◌, Bool, true, false, cond, List, length, get_or, refl, sym, ◌∙◌, ap, arith, subst}
+use Rattle.std.proofs.Common.{◌≡◌, ◌≢◌, ◌⊎◌, inl, inr, ℕ, ◌+◌, ◌*◌, ◌/◌, ◌%◌, ◌<◌, ◌≤◌, Bool, true, false, cond, List, length, get_or, refl, sym, ◌∙◌}
+use Rattle.std.proofs.Common.{ap, arith, subst}
 use Rattle.std.proofs.Math.ListN.{length-set}
 use Rattle.std.specs.Prelude.{Some, ◌==◌, ◌&&◌, nat_lt, slice_index, slice_index_or, slice_range, slice_set}
 use Rattle.std.specs.List.{replace_range}
@@ -36,7 +37,8 @@ byte-off c l byte x set way o h off = go (nat_lt set c.shape.sets && nat_lt way 
     inner true e = get_or-set_other c.bytes (16 * l + byte) (16 * slot_of c.shape set way + o) x 0
         (λ same. let m : o < 16 = grind (arith, nat_tests) in off (omega arith) (omega arith))
     inner false e = refl
-    go : (b : Bool) → (cond b (slot_at (with_byte c l byte x) (slot_of c.shape set way)) no_slot).bytes o ≡ (cond b (slot_at c (slot_of c.shape set way)) no_slot).bytes o
+    go : (b : Bool)
+        → (cond b (slot_at (with_byte c l byte x) (slot_of c.shape set way)) no_slot).bytes o ≡ (cond b (slot_at c (slot_of c.shape set way)) no_slot).bytes o
     go true = unfold slot_at in inner (nat_lt o 16) refl
     go false = refl
 
@@ -70,7 +72,8 @@ module _ (image : LoadedImage) (memory : List ℕ) (c : Contents) (l byte x : �
       ∙ sym (ap (λ (e : Contents). record e { bytes = slice_set e.bytes j x }) (written-hit c line word mask value way (sym h)))
 
   -- a write of the byte
-  pub written-gone : (line word mask value way : ℕ) → found c line ≡ Some way → slot_of c.shape (set_of c.shape line) way ≡ l → word ≡ byte / 4 → has_lane mask (byte % 4) ≡ true
+  pub written-gone : (line word mask value way : ℕ) → found c line ≡ Some way → slot_of c.shape (set_of c.shape line) way ≡ l → word ≡ byte / 4
+      → has_lane mask (byte % 4) ≡ true
       → written_word line word mask value d ≡ written_word line word mask value c
   unfolding put
   written-gone line word mask value way h at w on =
@@ -99,13 +102,15 @@ module _ (image : LoadedImage) (memory : List ℕ) (c : Contents) (l byte x : �
   pub memory-kept : (line : ℕ) → memory_refilled image line d memory ≡ memory_refilled image line c memory
   unfolding memory_refilled
   memory-kept line =
-      ap (λ w. written_back image (set_of c.shape line) w d memory) (way_for-other c (slice_set c.bytes j x) line) ∙ back-kept (set_of c.shape line) (way_for c line)
+      ap (λ w. written_back image (set_of c.shape line) w d memory) (way_for-other c (slice_set c.bytes j x) line)
+      ∙ back-kept (set_of c.shape line) (way_for c line)
 
   -- a refill of another slot, and of this one
   abbrev start : ℕ → ℕ
   start line = 16 * slot_of c.shape (set_of c.shape line) (way_for c line)
 
-  refilled-by : (line : ℕ) (f : List ℕ → List ℕ) → replace_range (slice_set c.bytes j x) (start line) (start line + 16) (line_bytes image line (memory_refilled image line c memory))
+  refilled-by : (line : ℕ) (f : List ℕ → List ℕ)
+      → replace_range (slice_set c.bytes j x) (start line) (start line + 16) (line_bytes image line (memory_refilled image line c memory))
       ≡ f (replace_range c.bytes (start line) (start line + 16) (line_bytes image line (memory_refilled image line c memory)))
       → refilled image line memory d ≡ record (refilled image line memory c) { bytes = f (refilled image line memory c).bytes }
   unfolding refilled filled

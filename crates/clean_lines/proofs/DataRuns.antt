@@ -1,5 +1,6 @@
 -- Many cycles from a state with a struck data bit of a clean line.
-use Rattle.std.proofs.Common.{◌≡◌, ◌≤◌, ℕ, zero, suc, ◌+◌, ◌-◌, ◌*◌, ◌/◌, ◌%◌, ◌<◌, Bool, true, false, cond, List, [], ◌∷◌, ◌++◌, refl, sym, ◌∙◌, ap, arith, inl, inr, subst}
+use Rattle.std.proofs.Common.{◌≡◌, ◌≤◌, ℕ, zero, suc, ◌+◌, ◌-◌, ◌*◌, ◌/◌, ◌%◌, ◌<◌, Bool, true, false, cond, List, [], ◌∷◌, ◌++◌, refl, sym, ◌∙◌, ap}
+use Rattle.std.proofs.Common.{arith, inl, inr, subst}
 use Rattle.std.specs.Prelude.{⊤, Option, Some, None, ◌==◌, ◌&&◌, nat_le, if◌then◌else◌}
 use Rattle.std.specs.Option.{option_map_or}
 use Rattle.std.proofs.lemmas.Bool.{cases_lt}
@@ -51,7 +52,8 @@ module _ (s : State) (k : ℕ) where
   abbrev byte : ℕ
   byte = k % 128 / 8
 
-  step-on : (n : ℕ) → IsInStep n s (data_struck k) → SameCycle (state_after n s) (data_struck k (state_after n s)) → cycle (data_struck k (state_after n s)) ≡ data_struck k (cycle (state_after n s))
+  step-on : (n : ℕ) → IsInStep n s (data_struck k) → SameCycle (state_after n s) (data_struck k (state_after n s))
+      → cycle (data_struck k (state_after n s)) ≡ data_struck k (cycle (state_after n s))
       → IsInStep (suc n) s (data_struck k)
   unfolding state_after
   step-on n h same e = record {
@@ -59,7 +61,8 @@ module _ (s : State) (k : ℕ) where
     state = ap cycle h.state ∙ e;
   }
 
-  settle-on : (n : ℕ) → IsInStep n s (data_struck k) → SameCycle (state_after n s) (data_struck k (state_after n s)) → cycle (data_struck k (state_after n s)) ≡ cycle (state_after n s)
+  settle-on : (n : ℕ) → IsInStep n s (data_struck k) → SameCycle (state_after n s) (data_struck k (state_after n s))
+      → cycle (data_struck k (state_after n s)) ≡ cycle (state_after n s)
       → IsSettled (suc n) s (data_struck k s)
   unfolding state_after
   settle-on n h same e = record {
@@ -77,7 +80,8 @@ module _ (s : State) (k : ℕ) where
   no-miss true h e = cc
   no-miss false h e = cc
 
-  later : (n : ℕ) (e : CacheEvent) (kind : EventKind) (a h : Bool) → (a && concerns_by kind h) ≡ true → DataRunBy n s k (told_by kind h e.cycle) → DataRunBy (suc n) s k (told_by kind h e.cycle)
+  later : (n : ℕ) (e : CacheEvent) (kind : EventKind) (a h : Bool) → (a && concerns_by kind h) ≡ true → DataRunBy n s k (told_by kind h e.cycle)
+      → DataRunBy (suc n) s k (told_by kind h e.cycle)
   later n e Read a h c run = run
   later n e Write a true c run = settled-more n s (data_struck k s) run
   later n e Write a false c run = run
@@ -122,7 +126,8 @@ module _ (s : State) (k : ℕ) where
         go true c one = (c, now n e e.kind (is_of_slot s.cache.shape l e) (holds_byte byte e) c (number n e h) run.0 one)
         go false c one = quiet n run one
 
-    by-cycle : (n : ℕ) (o r : Option CacheEvent) → event_in (state_after n s) ≡ o → (es : List CacheEvent) → r ≡ first_event (concerns s.cache.shape l byte) s.cycle es → RunBy n r
+    by-cycle : (n : ℕ) (o r : Option CacheEvent) → event_in (state_after n s) ≡ o → (es : List CacheEvent)
+        → r ≡ first_event (concerns s.cache.shape l byte) s.cycle es → RunBy n r
         → RunBy (suc n) (first_event (concerns s.cache.shape l byte) s.cycle (with_one es o))
     by-cycle n None r h es e run = rw (sym e) (none n r h run)
       where
@@ -135,7 +140,8 @@ module _ (s : State) (k : ℕ) where
     all : (n : ℕ) → RunBy n (first_event (concerns s.cache.shape l byte) s.cycle (events_after n s))
     unfolding state_after events_after first_event
     all zero = (record { same = λ i h. absurd (omega arith); state = refl }, clean)
-    all (suc n) = by-cycle n (event_in (state_after n s)) (first_event (concerns s.cache.shape l byte) s.cycle (events_after n s)) refl (events_after n s) refl (all n)
+    all (suc n) =
+        by-cycle n (event_in (state_after n s)) (first_event (concerns s.cache.shape l byte) s.cycle (events_after n s)) refl (events_after n s) refl (all n)
 
     told : (n : ℕ) (o : Option CacheEvent) → RunBy n o → DataRunBy n s k (option_map_or (λ e. told_by e.kind (holds_byte byte e) e.cycle) o Ends)
     told n None run = run

@@ -1,5 +1,6 @@
 -- One element changed, beside the changes that a write and a refill make.
-use Rattle.std.proofs.Common.{◌≡◌, ◌≢◌, ◌⊎◌, inl, inr, ℕ, zero, suc, ◌+◌, ◌-◌, ◌<◌, ◌≤◌, Bool, true, false, cond, List, ◌++◌, length, take, drop, refl, sym, ◌∙◌, ap, arith}
+use Rattle.std.proofs.Common.{◌≡◌, ◌≢◌, ◌⊎◌, inl, inr, ℕ, zero, suc, ◌+◌, ◌-◌, ◌<◌, ◌≤◌, Bool, true, false, cond, List, ◌++◌, length, take, drop}
+use Rattle.std.proofs.Common.{refl, sym, ◌∙◌, ap, arith}
 use Rattle.std.proofs.Math.ListN.{set, length-set}
 use Rattle.std.proofs.Math.Seq.{take-set-lt}
 use Rattle.std.proofs.lemmas.List.{drop-set-add, drop-set-lt, length-append, length-take-le, set-append_left, set-append_right, set-set, set_comm, take-set-le}
@@ -10,7 +11,8 @@ use Rattle.wb_cache.specs.Access.{put_lane, put_word}
 
 -- ---- a word
 
-lane_off : (b : Bool) (bytes : List ℕ) (i j y v : ℕ) → (b ≡ true → i ≢ j) → cond b (set (set bytes j v) i y) (set bytes j v) ≡ set (cond b (set bytes i y) bytes) j v
+lane_off : (b : Bool) (bytes : List ℕ) (i j y v : ℕ) → (b ≡ true → i ≢ j)
+    → cond b (set (set bytes j v) i y) (set bytes j v) ≡ set (cond b (set bytes i y) bytes) j v
 lane_off true bytes i j y v off = sym (set_comm bytes i j y v (off refl))
 lane_off false bytes i j y v off = refl
 
@@ -79,7 +81,8 @@ range-off xs a b j v (inr h) = go (cases a j)
     go (inr m) = ap (take (b - a)) (drop-set-lt a xs j v m)
 
 -- a range that is replaced, without the element
-pub replace-off : (xs ys : List ℕ) (a b j v : ℕ) → a + length ys ≡ b → b ≤ length xs → (j < a) ⊎ (b ≤ j) → replace_range (set xs j v) a b ys ≡ set (replace_range xs a b ys) j v
+pub replace-off : (xs ys : List ℕ) (a b j v : ℕ) → a + length ys ≡ b → b ≤ length xs → (j < a) ⊎ (b ≤ j)
+    → replace_range (set xs j v) a b ys ≡ set (replace_range xs a b ys) j v
 replace-off xs ys a b j v e h (inl l) =
     let long : length (take a xs) ≡ a = length-take-le a xs (omega arith) in
     let both : length (take a xs ++ ys) ≡ a + length ys = omega (arith, length-append (take a xs) ys) in

@@ -59,7 +59,8 @@ module _ (a b : Contents) (ways : (line : ℕ) → way_for a line ≡ way_for b 
   continues-same count None h = refl
   continues-same count (Some word) h = waits-same word (nat_lt 1 count) h
 
-  pub move-same : (port : PortState) (load : Option ℕ) (store : Option Entry) → Agree a b (line_asked port load store) → move_of port a load store ≡ move_of port b load store
+  pub move-same : (port : PortState) (load : Option ℕ) (store : Option Entry) → Agree a b (line_asked port load store)
+      → move_of port a load store ≡ move_of port b load store
   unfolding move_of
   move-same port load store h = go (port.count == 0) h
     where

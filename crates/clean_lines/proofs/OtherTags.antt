@@ -72,7 +72,8 @@ module _ (c : Contents) (l tag : ℕ) (sized : IsSized c) (below : l < slot_coun
   tag-new : (set way : ℕ) → set < c.shape.sets → way < c.shape.ways → slot_of c.shape set way ≡ l → (slots d set way).tag ≡ tag
   unfolding slot_at
   tag-new set way h m e =
-      ap (λ (slot : Slot). slot.tag) (slots-inside d set way h m) ∙ ap (λ i. get_or (slice_set c.tags l tag) i 0) e ∙ get_or-set_same c.tags l tag 0 (omega (arith, sized.tags))
+      ap (λ (slot : Slot). slot.tag) (slots-inside d set way h m) ∙ ap (λ i. get_or (slice_set c.tags l tag) i 0) e
+      ∙ get_or-set_same c.tags l tag 0 (omega (arith, sized.tags))
 
   tag-old : (set way : ℕ) → set < c.shape.sets → way < c.shape.ways → slot_of c.shape set way ≡ l → (slots c set way).tag ≡ (slot_at c l).tag
   tag-old set way h m e = ap (λ (slot : Slot). slot.tag) (slots-inside c set way h m) ∙ ap (λ i. (slot_at c i).tag) e
@@ -105,12 +106,14 @@ module _ (c : Contents) (l tag : ℕ) (sized : IsSized c) (below : l < slot_coun
           ap (λ v. v && (slots d (set_of c.shape line) way).tag == tag_of c.shape line) (valid-tags (set_of c.shape line) way)
           ∙ ap (λ t. (slots c (set_of c.shape line) way).valid && t == tag_of c.shape line) (tag-off (set_of c.shape line) way off)
 
-  pub found-tags : (line : ℕ) → line ≢ line_of c.shape (set_at c.shape l) (slot_at c l).tag → line ≢ line_of c.shape (set_at c.shape l) tag → found d line ≡ found c line
+  pub found-tags : (line : ℕ) → line ≢ line_of c.shape (set_at c.shape l) (slot_at c l).tag → line ≢ line_of c.shape (set_at c.shape l) tag
+      → found d line ≡ found c line
   unfolding way_of
   found-tags line ne near = first_below-same c.shape.ways _ _ (λ w m. has-tags line w m ne near)
 
   -- a line that is found in slot l is the slot's
-  pub found-here : (line way : ℕ) → found c line ≡ Some way → slot_of c.shape (set_of c.shape line) way ≡ l → line ≡ line_of c.shape (set_at c.shape l) (slot_at c l).tag
+  pub found-here : (line way : ℕ) → found c line ≡ Some way → slot_of c.shape (set_of c.shape line) way ≡ l
+      → line ≡ line_of c.shape (set_at c.shape l) (slot_at c l).tag
   unfolding way_of
   found-here line way h e =
       let first = first_below-some c.shape.ways way (λ w. holds c.shape line (slots c (set_of c.shape line) w)) h in

@@ -33,7 +33,8 @@ use Rattle.clean_lines.proofs.Moves.{move-same}
 use Rattle.clean_lines.proofs.OtherCache.{cycle-other, same-other}
 use Rattle.clean_lines.proofs.OtherTags.{bytes-tags, dirties-tags, found-here, ways-tags}
 use Rattle.clean_lines.proofs.Stays.{held-cycle, held_then, line_at}
-use Rattle.clean_lines.proofs.TagMoves.{Apart, agree-asked, memory-tags, read-tag, read-tags, refilled-same, refilled-tag, refilled-tags, written-tag, written-tags}
+use Rattle.clean_lines.proofs.TagMoves.{Apart, agree-asked, memory-tags, read-tag, read-tags, refilled-same, refilled-tag, refilled-tags, written-tag}
+use Rattle.clean_lines.proofs.TagMoves.{written-tags}
 
 clean-held : (c : Contents) (l line : ℕ) → IsHeld c l (Clean line) → IsCleanSlot c l
 clean-held c l line h = record { valid = h.0; clean = h.1 }
@@ -226,7 +227,8 @@ module _ (s : State) (k : ℕ) (is : IsSteady s) (busy : s.port.count ≢ 0 → 
   }
 
   -- a write is of another slot, since it is of another line
-  write-off : (w : Entry) (way : ℕ) (a : Bool) → (slot_of c.shape (set_of c.shape (w.addr / 4)) way == l) ≡ a → Tells c load store (Drains w way) → IsApart s k (event_by (Drains w way) (action_in_m s) s.cycle c)
+  write-off : (w : Entry) (way : ℕ) (a : Bool) → (slot_of c.shape (set_of c.shape (w.addr / 4)) way == l) ≡ a → Tells c load store (Drains w way)
+      → IsApart s k (event_by (Drains w way) (action_in_m s) s.cycle c)
       → IsHeld (cycle s).cache l (if a then Dirty (w.addr / 4) else Clean (line_at c l)) → IsCleanSlot (cycle s).cache l
   write-off w way false p t h g = clean-held (cycle s).cache l (line_at c l) g
   write-off w way true p t h g =
@@ -237,7 +239,8 @@ module _ (s : State) (k : ℕ) (is : IsSteady s) (busy : s.port.count ≢ 0 → 
     where
       at : slot_of c.shape (set_of c.shape m) way ≡ slot_of c.shape (set_of c.shape m) (way_for c m)
       at = ap (slot_of c.shape (set_of c.shape m)) t.1
-      go : (a : Bool) → (slot_of c.shape (set_of c.shape m) way == l) ≡ a → IsHeld (cycle s).cache l (if a then Clean m else Clean (line_at c l)) → TagCycleBy s k (a && true)
+      go : (a : Bool) → (slot_of c.shape (set_of c.shape m) way == l) ≡ a → IsHeld (cycle s).cache l (if a then Clean m else Clean (line_at c l))
+          → TagCycleBy s k (a && true)
       go true p g = ends (Fills m way) e (settles-fill m way (sym at ∙ eqb-true (slot_of c.shape (set_of c.shape m) way) l p))
       go false p g = stays (Fills m way) e (keeps-fill m way (λ q. other-slot (slot_of c.shape (set_of c.shape m) way) l p (at ∙ q))) (clean-held (cycle s).cache l (line_at c l) g)
 

@@ -1,5 +1,6 @@
 -- The tag of a clean line slot is another one: the line that decides what the port does is found alike, and what a move makes of the cache.
-use Rattle.std.proofs.Common.{◌≡◌, ◌≢◌, ◌⊎◌, inl, inr, ℕ, ◌+◌, ◌*◌, ◌/◌, ◌%◌, ◌<◌, Bool, true, false, cond, List, length, get_or, refl, sym, ◌∙◌, ap, arith, subst}
+use Rattle.std.proofs.Common.{◌≡◌, ◌≢◌, ◌⊎◌, inl, inr, ℕ, ◌+◌, ◌*◌, ◌/◌, ◌%◌, ◌<◌, Bool, true, false, cond, List, length, get_or, refl, sym, ◌∙◌, ap}
+use Rattle.std.proofs.Common.{arith, subst}
 use Rattle.std.specs.Prelude.{⊤, Option, Some, None, ◌==◌, ◌&&◌, nat_lt, slice_index, slice_index_or, slice_range, slice_set, if◌then◌else◌}
 use Rattle.std.proofs.lemmas.Bool.{cases_eq, eq-eqb}
 use Rattle.std.proofs.lemmas.List.{get_or-set_other, set-set, set_comm}
@@ -49,27 +50,33 @@ module _ (c : Contents) (l tag : ℕ) (sized : IsSized c) (below : l < slot_coun
   read-line m n word (Some way) h = h
   read-line m n word None h = h
 
-  drained-line : (m : Action) (n : ℕ) (e : Entry) (o : Option ℕ) → Apart line near (event_by (drained_by o c e) m n c) → (e.addr / 4 ≢ line) × (e.addr / 4 ≢ near)
+  drained-line : (m : Action) (n : ℕ) (e : Entry) (o : Option ℕ) → Apart line near (event_by (drained_by o c e) m n c)
+      → (e.addr / 4 ≢ line) × (e.addr / 4 ≢ near)
   drained-line m n e (Some way) h = h
   drained-line m n e None h = h
 
-  started : (m : Action) (n : ℕ) (load : Option ℕ) (store : Option Entry) → Apart line near (event_by (starts c load store) m n c) → Agree d c (line_started load store)
+  started : (m : Action) (n : ℕ) (load : Option ℕ) (store : Option Entry) → Apart line near (event_by (starts c load store) m n c)
+      → Agree d c (line_started load store)
   started m n (Some word) store h = alike (word / 4) (read-line m n word (found c (word / 4)) h)
   started m n None (Some e) h = alike (e.addr / 4) (drained-line m n e (found c (e.addr / 4)) h)
   started m n None None h = tt
 
-  filled-line : (m : Action) (n word : ℕ) (o : Option ℕ) → o ≡ None → Apart line near (event_by (filled_by o c (word / 4)) m n c) → (word / 4 ≢ line) × (word / 4 ≢ near)
+  filled-line : (m : Action) (n word : ℕ) (o : Option ℕ) → o ≡ None → Apart line near (event_by (filled_by o c (word / 4)) m n c)
+      → (word / 4 ≢ line) × (word / 4 ≢ near)
   filled-line m n word (Some way) e h = absurd cc
   filled-line m n word None e h = h
 
-  owned-line : (m : Action) (n count word : ℕ) → found c (word / 4) ≡ None → Apart line near (event_by (continues count c (Some word)) m n c) → Agree d c (line_owned count (Some word))
+  owned-line : (m : Action) (n count word : ℕ) → found c (word / 4) ≡ None → Apart line near (event_by (continues count c (Some word)) m n c)
+      → Agree d c (line_owned count (Some word))
   owned-line m n count word missing h = go (nat_lt 1 count) h
     where
-      go : (t : Bool) → Apart line near (event_by (if t then Waits else filled_by (found c (word / 4)) c (word / 4)) m n c) → Agree d c (if t then None else Some (word / 4))
+      go : (t : Bool) → Apart line near (event_by (if t then Waits else filled_by (found c (word / 4)) c (word / 4)) m n c)
+          → Agree d c (if t then None else Some (word / 4))
       go true h = tt
       go false h = alike (word / 4) (filled-line m n word (found c (word / 4)) missing h)
 
-  owned : (m : Action) (n count : ℕ) (o : Option ℕ) (word : ℕ) → o ≡ Some word → found c (word / 4) ≡ None → Apart line near (event_by (continues count c o) m n c) → Agree d c (line_owned count o)
+  owned : (m : Action) (n count : ℕ) (o : Option ℕ) (word : ℕ) → o ≡ Some word → found c (word / 4) ≡ None
+      → Apart line near (event_by (continues count c o) m n c) → Agree d c (line_owned count o)
   owned m n count None word e missing h = tt
   owned m n count (Some w) word e missing h =
       let same : word ≡ w = cc in owned-line m n count w (ap (λ v. found c (v / 4)) (sym same) ∙ missing) h
@@ -81,7 +88,8 @@ module _ (c : Contents) (l tag : ℕ) (sized : IsSized c) (below : l < slot_coun
   unfolding move_of
   agree-asked m n port load store busy h = go (port.count == 0) refl h
     where
-      go : (z : Bool) → (port.count == 0) ≡ z → Apart line near (event_by (if z then starts c load store else continues port.count c (owned_word port.owner load store)) m n c)
+      go : (z : Bool) → (port.count == 0) ≡ z
+          → Apart line near (event_by (if z then starts c load store else continues port.count c (owned_word port.owner load store)) m n c)
           → Agree d c (if z then line_started load store else line_owned port.count (owned_word port.owner load store))
       go true e h = started m n load store h
       go false e h =
@@ -101,7 +109,8 @@ module _ (c : Contents) (l tag : ℕ) (sized : IsSized c) (below : l < slot_coun
       → written_word m word mask value d ≡ record (written_word m word mask value c) { tags = slice_set (written_word m word mask value c).tags l tag }
   unfolding put
   written-tags m word mask value way e f =
-      written-hit d m word mask value way (sym e) ∙ sym (ap (λ (a : Contents). record a { tags = slice_set a.tags l tag }) (written-hit c m word mask value way (sym f)))
+      written-hit d m word mask value way (sym e)
+      ∙ sym (ap (λ (a : Contents). record a { tags = slice_set a.tags l tag }) (written-hit c m word mask value way (sym f)))
 
   pub written-tag : (m word mask value way : ℕ) → found c m ≡ Some way → slice_index (written_word m word mask value c).tags l ≡ slice_index c.tags l
   unfolding put

@@ -39,7 +39,8 @@ DataRun n s k = DataRunBy n s k (next_of s.cache.shape (k / 128) (k % 128 / 8) s
 -- The first n cycles from a state with struck tag bit k of a clean line, by the first of their events that fills the slot.
 abbrev pub TagRunBy : ℕ → State → ℕ → Option CacheEvent → Type 0
 TagRunBy n s k (Some e) = IsSettled n s (tag_struck k s)
-TagRunBy n s k None = IsInStep n s (tag_struck k) × IsCleanSlot (state_after n s).cache (tag_slot s.cache k) × (tag_line (state_after n s).cache k ≡ tag_line s.cache k)
+TagRunBy n s k None =
+    IsInStep n s (tag_struck k) × IsCleanSlot (state_after n s).cache (tag_slot s.cache k) × (tag_line (state_after n s).cache k ≡ tag_line s.cache k)
 
 abbrev pub TagRun : ℕ → State → ℕ → Type 0
 TagRun n s k = TagRunBy n s k (first_event (fills s.cache.shape (tag_slot s.cache k)) s.cycle (events_after n s))
