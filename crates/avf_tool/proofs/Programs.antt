@@ -8,7 +8,8 @@ use Rattle.run_record.specs.Run.{RecordedRun}
 use Rattle.run_record.specs.Within.{IsRecordOf}
 use Rattle.run_record.proofs.Within.{within_is_record}
 use Rattle.run_log.proofs.Programs.{program}
-use Rattle.avf_tool.specs.Programs.{IsProgram, ProgramLaw}
+use Rattle.run_log.specs.Answers.{IsProgram}
+use Rattle.avf_tool.specs.Programs.{ProgramLaw}
 
 is_program : (image : LoadedImage) (shape : Shape) (budget : ℕ) (run : RecordedRun) → IsImage image → IsShape shape → IsRecordOf image shape budget run → IsProgram run
 is_program image shape budget run is fits h =

@@ -8,7 +8,8 @@ use Rattle.elf_load.specs.Image.{LoadedImage}
 use Rattle.rv_isa.specs.Effects.{retired_at}
 use Rattle.rv_isa.specs.Runs.{IsTrace, ProgramTrace, trace_at}
 use Rattle.run_record.specs.Run.{RecordedRun}
-use Rattle.avf_tool.specs.Programs.{IsProgram, instructions_of}
+use Rattle.run_log.specs.Answers.{IsProgram}
+use Rattle.avf_tool.specs.Programs.{instructions_of}
 
 some_end : (o : Option End) (end : End) → o ≡ Some end → o ≡ None → ⊥
 some_end o end e h = absurd cc

@@ -6,7 +6,7 @@ use Rattle.std.proofs.lemmas.Bool.Decides.{nat_tests}
 use Rattle.std.proofs.lemmas.List.{get_or-replicate}
 use Rattle.bit_field.specs.Shapes.{IsShape, slots as slot_count}
 use Rattle.bit_field.specs.declared.shapes.Shape.{Shape}
-use Rattle.elf_load.specs.Image.{LoadedImage, IsImage, ram_byte}
+use Rattle.elf_load.specs.Image.{LoadedImage, ram_byte}
 use Rattle.store_buf.specs.Pending.{oldest, pending}
 use Rattle.wb_cache.specs.Access.{found}
 use Rattle.wb_cache.specs.Changes.{filled_slot, put_slot, set_at, way_at, written_slot}
@@ -17,8 +17,8 @@ use Rattle.wb_cache.specs.declared.event.EventKind.{EventKind}
 use Rattle.wb_cache.specs.declared.event.EventKind.TheVariants.{Read, Write, Miss, Fill}
 use Rattle.wb_cache.proofs.Find.{first_below-some}
 use Rattle.wb_cache.proofs.Lines.{line_from_parts}
-use Rattle.wb_cache.proofs.Sizes.{slot-split, slot_apart}
 use Rattle.wb_cache.proofs.Struck.{slot-at}
+use Rattle.wb_cache.proofs.Ways.{holds-tag, holds-valid}
 use Rattle.cyc_machine.specs.Cycle.{cycle, event_in}
 use Rattle.cyc_machine.specs.EventsLaw.{EventLaw, FindsBy, Held, IsEventOf, IsHeld, held_after, held_behind, held_by, HeldLaw, slots_by, slots_by_kind, value_drained}
 use Rattle.cyc_machine.specs.EventsLaw.Held.{Clean, Dirty, Vacant}
@@ -50,12 +50,6 @@ held_is c l (Dirty line) h = h
 -- the line that stands in a set
 line-here : (shape : Shape) (set line tag : ℕ) → set ≡ set_of shape line → tag ≡ tag_of shape line → line ≡ line_of shape set tag
 line-here shape set line tag e f = line_from_parts shape.sets line set tag (sym e) (sym f)
-
-holds-valid : (shape : Shape) (line : ℕ) (slot : Slot) → holds shape line slot ≡ true → slot.valid ≡ true
-holds-valid shape line slot h = grind (arith, nat_tests)
-
-holds-tag : (shape : Shape) (line : ℕ) (slot : Slot) → holds shape line slot ≡ true → slot.tag ≡ tag_of shape line
-holds-tag shape line slot h = grind (arith, nat_tests)
 
 found-holds : (c : Contents) (line way : ℕ) → found c line ≡ Some way → holds c.shape line (slots c (set_of c.shape line) way) ≡ true
 unfolding way_of

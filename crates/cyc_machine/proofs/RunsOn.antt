@@ -1,9 +1,8 @@
 -- Runs from any state go on from where they stand.
-use Rattle.std.proofs.Common.{◌≡◌, ◌≤◌, ◌<◌, ◌+◌, ◌-◌, ℕ, zero, suc, Bool, true, false, List, [], ◌∷◌, ◌++◌, arith, refl, ap, sym, ◌∙◌, subst, append_assoc, append-nil, inl, inr}
+use Rattle.std.proofs.Common.{◌≡◌, ◌≤◌, ◌<◌, ◌+◌, ◌-◌, ℕ, zero, suc, Bool, true, false, List, [], ◌∷◌, ◌++◌, arith, refl, ap, sym, ◌∙◌, append_assoc, append-nil, inl, inr}
 use Rattle.std.specs.Prelude.{◌⊎◌, Option, Some, None, if◌then◌else◌}
 use Rattle.avf_base.specs.declared.end.End.{End}
 use Rattle.rv_isa.specs.Instruction.{Log, logged}
-use Rattle.wb_cache.specs.declared.event.CacheEvent.{CacheEvent}
 use Rattle.cyc_machine.specs.Cycle.{cycle, cycled, done_in, end_in, event_in, move, put_in, retires}
 use Rattle.cyc_machine.specs.Run.{EndsIn, RunsFor, clocks_after, cycle_if, events_after, issues, issues_after, issues_clock, log_after, output_after, retired_after, state_after, with_one}
 use Rattle.cyc_machine.specs.RunsLaw.{RunsLaw}

@@ -19,7 +19,7 @@ mod registers;
 mod report;
 mod strikes;
 
-pub use facts::{events_law, flip_law, runs_law};
+pub use facts::{events_law, flip_law, runs_law, sizes_law};
 pub use fate::Fate;
 pub use machine::{CYCLES_PER_INSTRUCTION, Machine};
 pub use memory_stage::Served;

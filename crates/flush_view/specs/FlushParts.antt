@@ -1,6 +1,7 @@
--- What the flush makes of the log before it and of the clock values.
-use Rattle.std.specs.Prelude.{◌≡◌, ◌≤◌, ℕ, List, [], ◌++◌, drop}
-use Rattle.rv_isa.specs.Instruction.{Log}
+-- What the flush makes of the log before it and of the clock values, and the ranges of its numbers.
+use Rattle.std.specs.Prelude.{◌≡◌, ◌≤◌, ◌<◌, ◌^◌, ℕ, List, [], ◌++◌, drop}
+use Rattle.rv_isa.specs.Instruction.{State as Arch, Log}
+use Rattle.rv_isa.specs.Words.{IsWords}
 use Rattle.cyc_machine.specs.State.{State}
 use Rattle.flush_view.specs.Flush.{entries_completed, flush}
 
@@ -21,3 +22,9 @@ pub record FlushPartsLaw (s : State) (clocks : List ℕ) (log : Log) : Type 0 wh
   -- the flush is that after an empty log, but for what was done before it
   pub logs : flush s clocks log ≡ record (flush s clocks no_log) { log = behind log (flush s clocks no_log).log }
   pub takes : TakesClocks s clocks log
+
+-- The numbers of a state of the instruction set are in their ranges: registers, count and clock values of 32 bits, bytes of 8, and a word
+-- address of 30.
+pub record InRange (at : Arch) : Type 0 where
+  pub words : IsWords at
+  pub pc : at.pc < 2 ^ 30

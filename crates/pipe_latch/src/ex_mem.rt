@@ -2,10 +2,10 @@
 ghost use Rattle.std.specs.Prelude.{◌≡◌, ◌<◌};
 ghost use Rattle.rv_table.specs.Effects.{written_register};
 ghost use Rattle.pipe_latch.specs.LatchedActions.{latch_of, trap_number};
-ghost use Rattle.pipe_latch.specs.LatchedActions as spec;
 
-use bit_field::{Struck, bit_at, flip_bit, flip_u8, flip_u32};
-use rv_table::{Action, LoadKind, StoreKind};
+use crate::kinds::ExMemKind;
+use bit_field::{EX_MEM_BITS, Field, Struck, bit_at, field_at, flip_at_u8, flip_at_u32};
+use rv_table::Action;
 use std::marker::Model;
 
 /// The latch EX/MEM: what execution asks of the memory stage.
@@ -13,8 +13,7 @@ use std::marker::Model;
 pub struct ExMem {
     /// Whether it holds an instruction.
     pub valid: bool,
-    /// What is to be done, below 32: 0 write back, 1 LB, 2 LH, 3 LW, 4 LBU, 5 LHU, 6 SB, 7 SH, 8 SW, 9 PUT, 10 EXIT,
-    /// 11 TRAP; 12 to 31 act as 0.
+    /// The number of what is to be done, below 32: an `ExMemKind`.
     pub kind: u8,
     /// The register to write, below 32; 0 is none.
     pub rd: u8,
@@ -39,44 +38,74 @@ impl Model for ExMem {
     ghost inverse = { λ d. record { valid = d.valid; kind = d.kind; rd = d.rd; x = d.x; y = d.y; cause = d.cause } };
 }
 
+/// A field of EX/MEM.
+#[derive(Clone, Copy, PartialEq, Eq, Debug)]
+pub enum ExMemField {
+    Valid,
+    Kind,
+    Rd,
+    X,
+    Y,
+    Cause,
+}
+
+/// The fields of EX/MEM in bit order.
+pub const EX_MEM_FIELDS: [ExMemField; 6] = [
+    ExMemField::Valid,
+    ExMemField::Kind,
+    ExMemField::Rd,
+    ExMemField::X,
+    ExMemField::Y,
+    ExMemField::Cause,
+];
+
+impl Field for ExMemField {
+    ghost use Rattle.pipe_latch.specs.ExecutedBits as bits;
+
+    ghost width_of = { bits.width };
+
+    fn width(self) -> u32 {
+        match self {
+            ExMemField::Valid => 1,
+            ExMemField::Kind | ExMemField::Rd => 5,
+            ExMemField::X | ExMemField::Y => 32,
+            ExMemField::Cause => 4,
+        }
+    }
+}
+
 impl Struck for ExMem {
-    ghost use Rattle.pipe_latch.specs.ExecutedBits as executed_bits;
+    ghost use Rattle.bit_field.specs.Layouts.{bit_count as bits_of_layout};
+    ghost use Rattle.pipe_latch.specs.ExecutedBits as bits;
 
-    ghost IsFit = { executed_bits.IsFit };
+    ghost IsFit = { bits.IsFit };
 
-    ghost bit_count = { λ _. 79 };
+    ghost bit_count = { λ _. bits_of_layout bits.layout };
 
-    ghost bit_of = { executed_bits.bit_of };
+    ghost bit_of = { bits.bit_of };
 
-    ghost flipped = { executed_bits.flipped };
+    ghost flipped = { bits.flipped };
 
     fn bits(&self) -> u32 {
-        79
+        EX_MEM_BITS
     }
 
     fn bit(&self, k: u32) -> bool {
-        if k < 1 {
-            self.valid
-        } else if k < 6 {
-            bit_at(u32::from(self.kind), k - 1)
-        } else if k < 11 {
-            bit_at(u32::from(self.rd), k - 6)
-        } else if k < 43 {
-            bit_at(self.x, k - 11)
-        } else if k < 75 {
-            bit_at(self.y, k - 43)
-        } else {
-            bit_at(u32::from(self.cause), k - 75)
-        }
+        let (field, place) = field_at(&EX_MEM_FIELDS, k);
+        bit_at(self.value(field), place)
     }
 
     fn flip(&mut self, k: u32) {
-        flip_bit(&mut self.valid, 0, k);
-        flip_u8(&mut self.kind, 1, 5, k);
-        flip_u8(&mut self.rd, 6, 5, k);
-        flip_u32(&mut self.x, 11, 32, k);
-        flip_u32(&mut self.y, 43, 32, k);
-        flip_u8(&mut self.cause, 75, 4, k);
+        let (field, place) = field_at(&EX_MEM_FIELDS, k);
+        let width = field.width();
+        match field {
+            ExMemField::Valid => self.valid = !self.valid,
+            ExMemField::Kind => flip_at_u8(&mut self.kind, width, place),
+            ExMemField::Rd => flip_at_u8(&mut self.rd, width, place),
+            ExMemField::X => flip_at_u32(&mut self.x, width, place),
+            ExMemField::Y => flip_at_u32(&mut self.y, width, place),
+            ExMemField::Cause => flip_at_u8(&mut self.cause, width, place),
+        }
     }
 
     fn fits(&self) {
@@ -88,6 +117,8 @@ impl Struck for ExMem {
 }
 
 impl ExMem {
+    ghost use Rattle.std.specs.Prelude.{Some};
+    ghost use Rattle.pipe_latch.specs.ExecutedBits as bits;
     ghost use Rattle.pipe_latch.specs.Latches.{no_executed};
     ghost use Rattle.pipe_latch.specs.LatchedActions.{action_of};
 
@@ -105,6 +136,28 @@ impl ExMem {
         }
     }
 
+    /// The field that holds a bit, and which of the field's own bits that is, both counted from 0.
+    pub fn field_at(bit: u32) -> (ExMemField, u32)
+        requires { bit < EX_MEM_BITS }
+        ensures { bits.field_of bit ≡ Some result }
+    {
+        field_at(&EX_MEM_FIELDS, bit)
+    }
+
+    // The number that a field holds.
+    fn value(&self, field: ExMemField) -> u32
+        ensures { result ≡ bits.value self.now field }
+    {
+        match field {
+            ExMemField::Valid => u32::from(self.valid),
+            ExMemField::Kind => u32::from(self.kind),
+            ExMemField::Rd => u32::from(self.rd),
+            ExMemField::X => self.x,
+            ExMemField::Y => self.y,
+            ExMemField::Cause => u32::from(self.cause),
+        }
+    }
+
     #[tactic(auto, unfolding(crate::specs::LatchedActions::action_of))]
     /// What the memory stage does with the latch, whatever it holds.
     pub fn action(&self) -> Action
@@ -115,42 +168,24 @@ impl ExMem {
         if !self.valid {
             return Action::Nothing;
         }
-        match self.kind {
-            1 => self.loads(LoadKind::Lb),
-            2 => self.loads(LoadKind::Lh),
-            3 => self.loads(LoadKind::Lw),
-            4 => self.loads(LoadKind::Lbu),
-            5 => self.loads(LoadKind::Lhu),
-            6 => self.stores(StoreKind::Sb),
-            7 => self.stores(StoreKind::Sh),
-            8 => self.stores(StoreKind::Sw),
-            9 => Action::Puts(self.x),
-            10 => Action::Exits(self.x),
-            11 => Action::Traps(self.cause),
-            _ => Action::Writes {
+        match ExMemKind::of_number(self.kind) {
+            ExMemKind::WriteBack => Action::Writes {
                 rd: self.rd,
                 value: self.x,
             },
-        }
-    }
-
-    fn loads(&self, kind: LoadKind) -> Action
-        ensures { result ≡ Action.Loads kind self.now.rd self.now.x }
-    {
-        Action::Loads {
-            kind,
-            rd: self.rd,
-            address: self.x,
-        }
-    }
-
-    fn stores(&self, kind: StoreKind) -> Action
-        ensures { result ≡ Action.Stores kind self.now.x self.now.y }
-    {
-        Action::Stores {
-            kind,
-            address: self.x,
-            value: self.y,
+            ExMemKind::Load(kind) => Action::Loads {
+                kind,
+                rd: self.rd,
+                address: self.x,
+            },
+            ExMemKind::Store(kind) => Action::Stores {
+                kind,
+                address: self.x,
+                value: self.y,
+            },
+            ExMemKind::Put => Action::Puts(self.x),
+            ExMemKind::Exit => Action::Exits(self.x),
+            ExMemKind::Trap => Action::Traps(self.cause),
         }
     }
 }
@@ -174,7 +209,7 @@ pub fn latch_for(action: &Action) -> ExMem
             ..written
         },
         Action::Loads { kind, rd, address } => ExMem {
-            kind: kind_of_load(kind),
+            kind: ExMemKind::Load(kind).number(),
             rd,
             x: address,
             ..written
@@ -184,49 +219,25 @@ pub fn latch_for(action: &Action) -> ExMem
             address,
             value,
         } => ExMem {
-            kind: kind_of_store(kind),
+            kind: ExMemKind::Store(kind).number(),
             x: address,
             y: value,
             ..written
         },
         Action::Puts(value) => ExMem {
-            kind: 9,
+            kind: ExMemKind::Put.number(),
             x: value,
             ..written
         },
         Action::Exits(value) => ExMem {
-            kind: 10,
+            kind: ExMemKind::Exit.number(),
             x: value,
             ..written
         },
         Action::Traps(cause) => ExMem {
-            kind: 11,
+            kind: ExMemKind::Trap.number(),
             cause,
             ..written
         },
-    }
-}
-
-fn kind_of_load(kind: LoadKind) -> u8
-    ensures kind { result ≡ spec.kind_of_load kind }
-    ensures range { result < 32 }
-{
-    match kind {
-        LoadKind::Lb => 1,
-        LoadKind::Lh => 2,
-        LoadKind::Lw => 3,
-        LoadKind::Lbu => 4,
-        LoadKind::Lhu => 5,
-    }
-}
-
-fn kind_of_store(kind: StoreKind) -> u8
-    ensures kind { result ≡ spec.kind_of_store kind }
-    ensures range { result < 32 }
-{
-    match kind {
-        StoreKind::Sb => 6,
-        StoreKind::Sh => 7,
-        StoreKind::Sw => 8,
     }
 }

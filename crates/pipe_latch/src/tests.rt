@@ -3,6 +3,7 @@ ghost use Rattle.std.specs.Prelude.{◌<◌};
 
 use super::*;
 use bit_field::Struck;
+use elf_fixture::flat;
 use elf_load::load;
 use rv_table::{Action, LoadKind, StoreKind};
 use std::process::Abort;
@@ -22,21 +23,22 @@ fn expect_bit(rt: &impl Abort, fields: &[u32], field: usize, place: u32) {
 #[test]
 fn id_ex_bits(rt: HostRuntime) {
     let rows = [
-        (0, 0),
-        (1, 30),
-        (31, 36),
-        (37, 41),
-        (42, 46),
-        (47, 51),
-        (52, 83),
-        (84, 115),
-        (116, 147),
-        (148, 152),
+        (IdExField::Valid, 0, 0),
+        (IdExField::Pc, 1, 30),
+        (IdExField::Op, 31, 36),
+        (IdExField::Rd, 37, 41),
+        (IdExField::Rs1, 42, 46),
+        (IdExField::Rs2, 47, 51),
+        (IdExField::A, 52, 83),
+        (IdExField::B, 84, 115),
+        (IdExField::Imm, 116, 147),
+        (IdExField::Count, 148, 152),
     ];
-    for (field, (first, last)) in rows.into_iter().enumerate() {
+    for (field, (name, first, last)) in rows.into_iter().enumerate() {
         for k in first..=last {
             let mut d = IdEx::empty();
             assert!(rt; k < d.bits());
+            assert!(rt; IdEx::field_at(k) == (name, k - first), "bit {k}");
             d.flip(k);
             assert!(rt; d.bit(k));
             let fields = [
@@ -58,11 +60,19 @@ fn id_ex_bits(rt: HostRuntime) {
 
 #[test]
 fn ex_mem_bits(rt: HostRuntime) {
-    let rows = [(0, 0), (1, 5), (6, 10), (11, 42), (43, 74), (75, 78)];
-    for (field, (first, last)) in rows.into_iter().enumerate() {
+    let rows = [
+        (ExMemField::Valid, 0, 0),
+        (ExMemField::Kind, 1, 5),
+        (ExMemField::Rd, 6, 10),
+        (ExMemField::X, 11, 42),
+        (ExMemField::Y, 43, 74),
+        (ExMemField::Cause, 75, 78),
+    ];
+    for (field, (name, first, last)) in rows.into_iter().enumerate() {
         for k in first..=last {
             let mut m = ExMem::empty();
             assert!(rt; k < m.bits());
+            assert!(rt; ExMem::field_at(k) == (name, k - first), "bit {k}");
             m.flip(k);
             assert!(rt; m.bit(k));
             let fields = [
@@ -80,10 +90,12 @@ fn ex_mem_bits(rt: HostRuntime) {
 
 #[test]
 fn mem_wb_bits(rt: HostRuntime) {
-    for (field, (first, last)) in [(0, 4), (5, 36)].into_iter().enumerate() {
+    let rows = [(MemWbField::Rd, 0, 4), (MemWbField::Value, 5, 36)];
+    for (field, (name, first, last)) in rows.into_iter().enumerate() {
         for k in first..=last {
             let mut w = MemWb::empty();
             assert!(rt; k < w.bits());
+            assert!(rt; MemWb::field_at(k) == (name, k - first), "bit {k}");
             w.flip(k);
             assert!(rt; w.bit(k));
             expect_bit(&rt, &[u32::from(w.rd), w.value], field, k - first);
@@ -179,13 +191,6 @@ fn actions(rt: HostRuntime) {
     assert_eq!(rt; latch_for(&Action::Traps(8)), trap);
 }
 
-// An image of the one word ECALL, executable, at 0x10000: the RAM is 0x10000 to 0x10FFFF.
-const ONE_WORD: [u8; 88] = [
-    0x7F, 0x45, 0x4C, 0x46, 1, 1, 1, 0, 0, 0, 0, 0, 0, 0, 0, 0, 2, 0, 243, 0, 1, 0, 0, 0, 0, 0, 1,
-    0, 52, 0, 0, 0, 0, 0, 0, 0, 0, 0, 0, 0, 52, 0, 32, 0, 1, 0, 0, 0, 0, 0, 0, 0, 1, 0, 0, 0, 84,
-    0, 0, 0, 0, 0, 1, 0, 0, 0, 1, 0, 4, 0, 0, 0, 4, 0, 0, 0, 5, 0, 0, 0, 4, 0, 0, 0, 0x73, 0, 0, 0,
-];
-
 fn latched(kind: u8, rd: u8, x: u32, y: u32) -> ExMem
     requires kind { kind < 32 }
     requires rd { rd < 32 }
@@ -215,7 +220,9 @@ fn trapped(cause: u8) -> ExMem
 
 #[test]
 fn executes(rt: HostRuntime) {
-    let image = load(rt.alloc(), &ONE_WORD, 1 << 20).expect(&rt, "an image");
+    // the one word ECALL, executable, at 0x10000
+    let file = flat(rt.alloc(), &[0x73]).expect(&rt, "ample memory");
+    let image = load(rt.alloc(), &file, 1 << 20).expect(&rt, "an image");
     // code, immediate, a, b: what EX/MEM then holds, the next address, and what the predictor learns
     let rows = [
         (20, u32::MAX, 7, 0, latched(0, 9, 6, 0), 0x4001, None),

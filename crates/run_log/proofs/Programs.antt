@@ -9,14 +9,14 @@ use Rattle.cyc_machine.specs.Run.{IsRunning, clocks_below, output_below, retired
 use Rattle.flush_view.specs.RunLaw.{EndsAfter, RunLaw}
 use Rattle.run_record.specs.Journals.{closed}
 use Rattle.run_record.specs.declared.journal.Journal.{Journal}
-use Rattle.run_log.specs.Answers.{IsEndless, IsRunOf}
+use Rattle.run_log.specs.Answers.{IsEndless, IsProgram, IsRunOf}
 use Rattle.run_record.specs.Run.{IsRecord, RecordedRun}
 
 ends_same : (image : LoadedImage) (clocks other : List ℕ) (n m : ℕ) (end : End) (output bytes : List ℕ) → clocks ≡ other → n ≡ m → output ≡ bytes → EndsAfter image other m end bytes → EndsAfter image clocks n end output
 ends_same image clocks other n m end output bytes e f g h = rw (e, f, g) h
 
 -- a record is the instruction set's run
-pub program : (r : RecordedRun) → RunLaw r.image r.shape → IsRecord r → EndsAfter r.image r.clocks r.instructions r.end r.output
+pub program : (r : RecordedRun) → RunLaw r.image r.shape → IsRecord r → IsProgram r
 program r law is =
     let cycles : r.cycles ≡ suc is.last = omega (arith, is.cycles) in
     ends_same r.image r.clocks (clocks_below r.image r.shape (suc is.last)) r.instructions (retired_below r.image r.shape (suc is.last)) r.end r.output (output_below r.image r.shape (suc is.last))

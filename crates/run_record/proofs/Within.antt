@@ -1,5 +1,5 @@
 -- The record of a run within a budget of cycles is its record, and no other run has one.
-use Rattle.std.proofs.Common.{◌≡◌, ℕ, ◌+◌, ◌<◌, ◌≤◌, Bool, true, false, Option, None, Some, refl, sym, ap, ◌∙◌, subst, arith}
+use Rattle.std.proofs.Common.{◌≡◌, ℕ, ◌≤◌, false, Option, None, Some, refl, ap, subst, arith}
 use Rattle.std.specs.Prelude.{is_some, option_and_then, option_map}
 use Rattle.avf_base.specs.declared.end.End.{End}
 use Rattle.bit_field.specs.Shapes.{IsShape}

@@ -54,10 +54,12 @@ impl<'i> Model for Recorded<'i> {
 impl<'i> Recorded<'i> {
     ghost use Rattle.std.specs.Prelude.{◌≡◌, ◌<◌, slice_index};
     ghost use Rattle.run_record.specs.Run.{IsRecord};
+    ghost use Rattle.run_record.specs.Times.{IsTimed};
 
-    /// Changes nothing; says that every record is that of its image's run.
+    /// Changes nothing; says that every record is that of its image's run, and what of it lies below a cycle.
     pub fn is_record(&self)
-        ensures { IsRecord self.now }
+        ensures record { IsRecord self.now }
+        ensures timed { IsTimed self.now }
     {
         let _cycles = self.cycles;
     }

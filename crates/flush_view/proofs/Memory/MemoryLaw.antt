@@ -11,7 +11,7 @@ use Rattle.rv_table.specs.declared.action.Action.TheVariants.{Nothing, Writes, L
 use Rattle.rv_table.specs.declared.operation.StoreKind.{StoreKind}
 use Rattle.store_buf.specs.Entry.{Entry}
 use Rattle.store_buf.specs.Pending.{pending}
-use Rattle.wb_cache.specs.Contents.{Contents, slots}
+use Rattle.wb_cache.specs.Contents.{Contents, slots, AreBytes}
 use Rattle.cyc_machine.specs.Cycle.{action_in_m, cycle, cycled, move, served_m, done_in}
 use Rattle.cyc_machine.specs.Memory.{cache_after, kept_stores, load_client, memory_after, store_client, stores_after, word_read}
 use Rattle.cyc_machine.specs.State.{State}
@@ -26,7 +26,7 @@ use Rattle.cyc_machine.proofs.Tells.{Tells, tells}
 use Rattle.flush_view.proofs.Memory.Given.{served-value}
 use Rattle.flush_view.proofs.Memory.Overlay.{one_word}
 use Rattle.cyc_machine.specs.Sizes.{IsSteady}
-use Rattle.flush_view.proofs.Memory.Ways.{Slots}
+use Rattle.wb_cache.proofs.Ways.{Slots}
 
 -- a store outside RAM is dropped
 dropped-outside : (image : LoadedImage) → IsImage image → (kind : StoreKind) (x y p : ℕ) (memory : ℕ → ℕ) → in_ram image p ≡ false → memory p ≡ 0
