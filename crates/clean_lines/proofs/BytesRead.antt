@@ -22,32 +22,13 @@ use Rattle.store_buf.specs.declared.cover.Cover.TheVariants.{Full, Part, None as
 use Rattle.wb_cache.specs.Access.{found, word_at, word_of}
 use Rattle.wb_cache.specs.Contents.{Contents, Slot, no_slot, slot_at, slot_of, slots}
 use Rattle.wb_cache.specs.Lookup.{set_of}
+use Rattle.wb_cache.proofs.Bytes.{slot_byte-below}
 use Rattle.wb_cache.proofs.Hits.{word_of-hit}
 use Rattle.wb_cache.proofs.Lanes.{lane-word_at}
 use Rattle.cyc_machine.specs.Cycle.{lanes_of}
 use Rattle.cyc_machine.specs.Memory.{covered_value, load_value, loaded_of, served, served_by, value_read, word_read}
 use Rattle.cyc_machine.specs.declared.port.Move.{Move}
 use Rattle.cyc_machine.specs.declared.port.Move.TheVariants.{Rests, Reads, Drains, Misses, Waits, Leaves, Fills}
-
--- the bytes of the slots are below 256
-pub index_below : (xs : List ℕ) (i : ℕ) → All (λ b. b < 2 ^ 8) xs → slice_index xs i < 256
-index_below xs i all = go (cases_lt i (length xs))
-  where
-    go : (i < length xs) ⊎ (length xs ≤ i) → slice_index xs i < 256
-    go (inl l) = All-get_or (λ b. b < 2 ^ 8) xs i 0 l all
-    go (inr m) = subst (λ n. n < 256) (sym (get_or-eq_default xs 0 m)) (lit< tt)
-
-pub slot_bytes-below : (c : Contents) (set way o : ℕ) → All (λ b. b < 2 ^ 8) c.bytes → (slots c set way).bytes o < 256
-unfolding slots slot_at
-slot_bytes-below c set way o is = go (nat_lt set c.shape.sets && nat_lt way c.shape.ways) (nat_lt o 16)
-  where
-    inner : (b : Bool) → cond b (slice_index c.bytes (16 * slot_of c.shape set way + o)) 0 < 256
-    inner true = index_below c.bytes (16 * slot_of c.shape set way + o) is
-    inner false = lit< tt
-
-    go : (a b : Bool) → (cond a (slot_at c (slot_of c.shape set way)) no_slot).bytes o < 256
-    go true b = inner (nat_lt o 16)
-    go false b = lit< tt
 
 -- a lane's byte of a word
 lane-byte : (value lane : ℕ) → lane < 4 → lane_byte value lane ≡ byte_of value lane
@@ -103,7 +84,8 @@ module _ (image : LoadedImage) (stores : List Entry) (a b : Slot) (word : ℕ) (
 -- what a move must leave the same: where it reads a word, its lanes
 abbrev pub ReadsAlike : Contents → Contents → Action → Move → Type 0
 ReadsAlike d c m (Reads word way) =
-    (found d (word / 4) ≡ Some way) × (found c (word / 4) ≡ Some way) × (d.shape ≡ c.shape) × AgreeOn (lanes_of m) (word % 4) (slots d (set_of c.shape (word / 4)) way) (slots c (set_of c.shape (word / 4)) way)
+    (found d (word / 4) ≡ Some way) × (found c (word / 4) ≡ Some way) × (d.shape ≡ c.shape)
+        × AgreeOn (lanes_of m) (word % 4) (slots d (set_of c.shape (word / 4)) way) (slots c (set_of c.shape (word / 4)) way)
 ReadsAlike d c m _ = ⊤
 
 pub served-alike : (image : LoadedImage) (m : Action) (stores : List Entry) (d c : Contents) (v : Move) → All (λ b. b < 2 ^ 8) d.bytes
@@ -111,9 +93,10 @@ pub served-alike : (image : LoadedImage) (m : Action) (stores : List Entry) (d c
     → ReadsAlike d c m v → served image m stores (word_read v d) ≡ served image m stores (word_read v c)
 unfolding word_read
 served-alike image m stores d c (Reads word way) p q h =
-    ap (served image m stores) (word_of-hit d (word / 4) (word % 4) way (sym h.0) ∙ ap (λ sh. Some (word_at (slots d (set_of sh (word / 4)) way) (word % 4))) h.2)
+    ap (served image m stores) (word_of-hit d (word / 4) (word % 4) way (sym h.0)
+        ∙ ap (λ sh. Some (word_at (slots d (set_of sh (word / 4)) way) (word % 4))) h.2)
     ∙ word-served image stores (slots d (set_of c.shape (word / 4)) way) (slots c (set_of c.shape (word / 4)) way) (word % 4)
-    (λ o. slot_bytes-below d (set_of c.shape (word / 4)) way o p) (λ o. slot_bytes-below c (set_of c.shape (word / 4)) way o q) m h.3
+    (λ o. slot_byte-below d (set_of c.shape (word / 4)) way o p) (λ o. slot_byte-below c (set_of c.shape (word / 4)) way o q) m h.3
     ∙ ap (served image m stores) (sym (word_of-hit c (word / 4) (word % 4) way (sym h.1)))
 served-alike image m stores d c Rests p q h = refl
 served-alike image m stores d c (Drains e way) p q h = refl

@@ -9,6 +9,7 @@ use Rattle.std.proofs.lemmas.List.Elements.{All-set}
 use Rattle.bit_field.proofs.Bits.{flip_below}
 use Rattle.bit_field.specs.Lanes.{has_lane}
 use Rattle.bit_field.specs.Shapes.{slots as slot_count}
+use Rattle.elf_load.proofs.ByteLists.{index-below}
 use Rattle.store_buf.specs.Entry.{Entry}
 use Rattle.store_buf.specs.Pending.{pending}
 use Rattle.wb_cache.specs.Contents.{Contents, slot_at, slot_of, slots}
@@ -29,7 +30,7 @@ use Rattle.cyc_machine.proofs.Sizes.Lasting.{steady-next}
 use Rattle.cyc_machine.proofs.Tells.{Tells, tells}
 use Rattle.clean_lines.specs.CleanCycle.{DataCycle, DataCycleBy, SameCycle, told_in}
 use Rattle.clean_lines.specs.Struck.{IsCleanSlot, IsDirtySlot, data_struck}
-use Rattle.clean_lines.proofs.BytesRead.{AgreeOn, ReadsAlike, index_below, served-alike}
+use Rattle.clean_lines.proofs.BytesRead.{ReadsAlike, served-alike}
 use Rattle.clean_lines.proofs.DataMoves.{byte-off, memory-kept, read-kept, refilled-gone, refilled-kept, with_byte, written-gone, written-kept}
 use Rattle.clean_lines.proofs.OtherBytes.{found-other, move-other}
 use Rattle.clean_lines.proofs.OtherCache.{cycle-other, same-other}
@@ -126,11 +127,13 @@ module _ (s : State) (k : ℕ) (is : IsSteady s) (below : k < slot_count s.cache
   moves = move-other c (slice_set c.bytes (16 * l + byte) x) s.port load store
 
   bytes-fit : All (λ b. b < 2 ^ 8) d.bytes
-  bytes-fit = All-set (λ b. b < 2 ^ 8) c.bytes (16 * l + byte) x (flip_below (slice_index_or c.bytes (k / 8) 0) (k % 8) 8 (index_below c.bytes (k / 8) is.bytes.cache) (omega arith)) is.bytes.cache
+  bytes-fit = All-set (λ b. b < 2 ^ 8) c.bytes (16 * l + byte) x
+      (flip_below (slice_index_or c.bytes (k / 8) 0) (k % 8) 8 (index-below c.bytes (k / 8) is.bytes.cache) (omega arith)) is.bytes.cache
 
   -- what a move must leave as it was for the byte to go on alone
   record Keeps (v : Move) : Type 0 where
-    cache : (y : ℕ) → cache_after s.image v s.memory (with_byte c l byte y) ≡ record (cache_after s.image v s.memory c) { bytes = slice_set (cache_after s.image v s.memory c).bytes (16 * l + byte) y }
+    cache : (y : ℕ) → cache_after s.image v s.memory (with_byte c l byte y) ≡ record (cache_after s.image v s.memory c) { bytes =
+        slice_set (cache_after s.image v s.memory c).bytes (16 * l + byte) y }
     memory : memory_after s.image v d s.memory ≡ memory_after s.image v c s.memory
     reads : ReadsAlike d c (action_in_m s) v
 
@@ -156,7 +159,8 @@ module _ (s : State) (k : ℕ) (is : IsSteady s) (below : k < slot_count s.cache
       let e : (cycle s).cache.bytes ≡ slice_set (cycle s).cache.bytes (16 * l + byte) (slice_index_or c.bytes (16 * l + byte) 0) =
           ap (λ (bs : List ℕ). (cache_after s.image (move s) s.memory (record c { bytes = bs })).bytes) (sym (set-get_or c.bytes (16 * l + byte) 0))
           ∙ ap (λ (a : Contents). a.bytes) (h.cache (slice_index_or c.bytes (16 * l + byte) 0)) in
-      rw place (ap (λ (bs : List ℕ). slice_index_or bs (16 * l + byte) 0) e ∙ get_or-set_same (cycle s).cache.bytes (16 * l + byte) (slice_index_or c.bytes (16 * l + byte) 0) 0 next-long)
+      rw place (ap (λ (bs : List ℕ). slice_index_or bs (16 * l + byte) 0) e
+          ∙ get_or-set_same (cycle s).cache.bytes (16 * l + byte) (slice_index_or c.bytes (16 * l + byte) 0) 0 next-long)
 
   kept : Keeps (move s) → cycle (data_struck k s) ≡ data_struck k (cycle s)
   unfolding cycled
@@ -164,7 +168,8 @@ module _ (s : State) (k : ℕ) (is : IsSteady s) (below : k < slot_count s.cache
       ap (λ (u : State). cycle u) struck-is
       ∙ cycle-other s d moves (serves h.reads)
       ∙ ap (λ (a : Contents). record (cycle s) { cache = a; memory = memory_after s.image (move s) d s.memory }) (h.cache x)
-      ∙ ap (λ (m : List ℕ). record (cycle s) { cache = record (cycle s).cache { bytes = slice_set (cycle s).cache.bytes (16 * l + byte) x }; memory = m }) h.memory
+      ∙ ap (λ (m : List ℕ). record (cycle s) { cache = record (cycle s).cache { bytes = slice_set (cycle s).cache.bytes (16 * l + byte) x }; memory =
+          m }) h.memory
       ∙ ap (λ i. record (cycle s) { cache = record (cycle s).cache { bytes = slice_set (cycle s).cache.bytes i x } }) (sym place)
       ∙ ap (λ v. record (cycle s) { cache = record (cycle s).cache { bytes = slice_set (cycle s).cache.bytes (k / 8) (flipped v) } }) (sym (next-byte h))
 
@@ -179,7 +184,8 @@ module _ (s : State) (k : ℕ) (is : IsSteady s) (below : k < slot_count s.cache
   -- by the move
   module _ (v : Move) (e : move s ≡ v) where
     held : IsHeld (cycle s).cache l (held_then s l (Clean (line_at c l)) (event_by v (action_in_m s) s.cycle c))
-    held = subst (λ (v : Move). IsHeld (cycle s).cache l (held_then s l (Clean (line_at c l)) (event_by v (action_in_m s) s.cycle c))) e (held-cycle s l is slot-below clean)
+    held = subst (λ (v : Move). IsHeld (cycle s).cache l (held_then s l (Clean (line_at c l)) (event_by v (action_in_m s) s.cycle c))) e
+        (held-cycle s l is slot-below clean)
 
     in-step : Keeps v → IsCleanSlot (cycle s).cache l
         → SameCycle s (data_struck k s) × (cycle (data_struck k s) ≡ data_struck k (cycle s)) × IsCleanSlot (cycle s).cache l
@@ -197,7 +203,8 @@ module _ (s : State) (k : ℕ) (is : IsSteady s) (below : k < slot_count s.cache
 
   still : Keeps Rests × Keeps Waits × Keeps Leaves
   unfolding cache_after memory_after
-  still = (record { cache = λ y. refl; memory = refl; reads = tt }, record { cache = λ y. refl; memory = refl; reads = tt }, record { cache = λ y. refl; memory = refl; reads = tt })
+  still = (record { cache = λ y. refl; memory = refl; reads = tt }, record { cache = λ y. refl; memory = refl; reads = tt }, record { cache =
+      λ y. refl; memory = refl; reads = tt })
 
   missed : (m way count : ℕ) (owner : Bool) → Keeps (Misses m way count owner)
   unfolding cache_after memory_after
@@ -205,7 +212,8 @@ module _ (s : State) (k : ℕ) (is : IsSteady s) (below : k < slot_count s.cache
 
   -- a read
   read-by : (word way : ℕ) → move s ≡ Reads word way → Tells c load store (Reads word way) → Told (Reads word way)
-  read-by word way e t = go (slot_of c.shape (set_of c.shape (word / 4)) way == l) (word % 4 == byte / 4 && has_lane (lanes_of (action_in_m s)) (byte % 4)) refl (held (Reads word way) e)
+  read-by word way e t = go (slot_of c.shape (set_of c.shape (word / 4)) way == l)
+      (word % 4 == byte / 4 && has_lane (lanes_of (action_in_m s)) (byte % 4)) refl (held (Reads word way) e)
     where
       keeps : (slot_of c.shape (set_of c.shape (word / 4)) way == l && (word % 4 == byte / 4 && has_lane (lanes_of (action_in_m s)) (byte % 4))) ≡ false
           → Keeps (Reads word way)
@@ -242,21 +250,26 @@ module _ (s : State) (k : ℕ) (is : IsSteady s) (below : k < slot_count s.cache
       slot = slot_of c.shape (set_of c.shape (w.addr / 4)) way
       keeps : (slot ≡ l → w.addr % 4 ≡ byte / 4 → has_lane w.mask (byte % 4) ≡ true → ⊥) → Keeps (Drains w way)
       keeps off = unfold cache_after in unfold memory_after in record {
-        cache = λ y. written-kept s.image s.memory c l byte y is.image is.memory is.cache slot-below (omega arith) not-dirty (w.addr / 4) (w.addr % 4) w.mask w.value way t.1 (omega arith) off;
+        cache = λ y. written-kept s.image s.memory c l byte y is.image is.memory is.cache slot-below (omega arith) not-dirty (w.addr / 4)
+            (w.addr % 4) w.mask w.value way t.1 (omega arith) off;
         memory = refl;
         reads = tt;
       }
       settles : slot ≡ l → w.addr % 4 ≡ byte / 4 → has_lane w.mask (byte % 4) ≡ true → Settles (Drains w way)
       settles p q r = unfold cache_after in unfold memory_after in record {
-        cache = written-gone s.image s.memory c l byte x is.image is.memory is.cache slot-below (omega arith) not-dirty (w.addr / 4) (w.addr % 4) w.mask w.value way t.1 p q r;
+        cache = written-gone s.image s.memory c l byte x is.image is.memory is.cache slot-below (omega arith) not-dirty (w.addr / 4)
+            (w.addr % 4) w.mask w.value way t.1 p q r;
         memory = refl;
         reads = tt;
       }
       go : (a h : Bool) → (slot == l) ≡ a → (w.addr % 4 == byte / 4 && has_lane w.mask (byte % 4)) ≡ h
           → IsHeld (cycle s).cache l (if a then Dirty (w.addr / 4) else Clean (line_at c l))
           → DataCycleBy s k (if a && true then told_by Write h s.cycle else Ends)
-      go true true p q g = ends (Drains w way) e (settles (eqb-true slot l p) (both-first (w.addr % 4) (byte / 4) (has_lane w.mask (byte % 4)) q) (both-second (w.addr % 4 == byte / 4) (has_lane w.mask (byte % 4)) q))
-      go true false p q g = goes-dirty (Drains w way) e (keeps (λ a b r. both-not (w.addr % 4) (byte / 4) (has_lane w.mask (byte % 4)) q b r)) (dirty-held (cycle s).cache l (w.addr / 4) g)
+      go true true p q g = ends (Drains w way) e
+          (settles (eqb-true slot l p) (both-first (w.addr % 4) (byte / 4) (has_lane w.mask (byte % 4)) q)
+          (both-second (w.addr % 4 == byte / 4) (has_lane w.mask (byte % 4)) q))
+      go true false p q g = goes-dirty (Drains w way) e (keeps (λ a b r. both-not (w.addr % 4) (byte / 4) (has_lane w.mask (byte % 4)) q b r))
+          (dirty-held (cycle s).cache l (w.addr / 4) g)
       go false true p q g = in-step (Drains w way) e (keeps (λ a b r. other-slot slot l p a)) (clean-held (cycle s).cache l (line_at c l) g)
       go false false p q g = in-step (Drains w way) e (keeps (λ a b r. other-slot slot l p a)) (clean-held (cycle s).cache l (line_at c l) g)
 
@@ -282,7 +295,8 @@ module _ (s : State) (k : ℕ) (is : IsSteady s) (below : k < slot_count s.cache
           → DataCycleBy s k (if a && true then told_by Fill (0 == byte / 4 && has_lane 0 (byte % 4)) s.cycle else Ends)
       go true p g = ends (Fills m way) e (settles (sym at ∙ eqb-true (slot_of c.shape (set_of c.shape m) way) l p))
       go false p g =
-          in-step (Fills m way) e (keeps (λ q. other-slot (slot_of c.shape (set_of c.shape m) way) l p (at ∙ q))) (clean-held (cycle s).cache l (line_at c l) g)
+          in-step (Fills m way) e (keeps (λ q. other-slot (slot_of c.shape (set_of c.shape m) way) l p (at ∙ q)))
+              (clean-held (cycle s).cache l (line_at c l) g)
 
   by-move : (v : Move) → move s ≡ v → Tells c load store v → Told v
   by-move Rests e t = in-step Rests e still.0 (clean-held (cycle s).cache l (line_at c l) (held Rests e))

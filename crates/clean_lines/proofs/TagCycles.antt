@@ -85,7 +85,8 @@ module _ (s : State) (k : ℕ) (is : IsSteady s) (busy : s.port.count ≢ 0 → 
   -- the line that the struck slot seems to hold
   near-is : near_line c k ≡ line_of c.shape (set_at c.shape l) tag
   unfolding slot_at
-  near-is = rw (set_of_line c.shape.sets (set_at c.shape l) (slice_index c.tags l) set-below, tag_of_line c.shape.sets (set_at c.shape l) (slice_index c.tags l) set-below) refl
+  near-is = rw (set_of_line c.shape.sets (set_at c.shape l) (slice_index c.tags l) set-below,
+      tag_of_line c.shape.sets (set_at c.shape l) (slice_index c.tags l) set-below) refl
 
   apart-by : (o : Option CacheEvent) → IsApart s k o → Apart (line_of c.shape (set_at c.shape l) (slot_at c l).tag) (line_of c.shape (set_at c.shape l) tag) o
   apart-by None h = tt
@@ -94,7 +95,8 @@ module _ (s : State) (k : ℕ) (is : IsSteady s) (busy : s.port.count ≢ 0 → 
   moves : move (record s { cache = d }) ≡ move s
   moves =
       move-same d c (ways-tags c l tag is.cache slot-below) (dirties-tags c l tag is.cache slot-below) s.port load store
-      (agree-asked c l tag is.cache slot-below (action_in_m s) s.cycle s.port load store (λ h. let b = busy h in (b.word, b.client, b.missing)) (apart-by (event_in s) apart))
+      (agree-asked c l tag is.cache slot-below (action_in_m s) s.cycle s.port load store (λ h. let b =
+          busy h in (b.word, b.client, b.missing)) (apart-by (event_in s) apart))
 
   told : Tells c load store (move s)
   told = tells s.port c load store
@@ -168,7 +170,8 @@ module _ (s : State) (k : ℕ) (is : IsSteady s) (busy : s.port.count ≢ 0 → 
 
   module _ (v : Move) (e : move s ≡ v) where
     held : IsHeld (cycle s).cache l (held_then s l (Clean (line_at c l)) (event_by v (action_in_m s) s.cycle c))
-    held = subst (λ (v : Move). IsHeld (cycle s).cache l (held_then s l (Clean (line_at c l)) (event_by v (action_in_m s) s.cycle c))) e (held-cycle s l is slot-below clean)
+    held = subst (λ (v : Move). IsHeld (cycle s).cache l (held_then s l (Clean (line_at c l)) (event_by v (action_in_m s) s.cycle c))) e
+        (held-cycle s l is slot-below clean)
 
     apart-here : IsApart s k (event_by v (action_in_m s) s.cycle c)
     apart-here = subst (λ (v : Move). IsApart s k (event_by v (action_in_m s) s.cycle c)) e apart
@@ -184,7 +187,8 @@ module _ (s : State) (k : ℕ) (is : IsSteady s) (busy : s.port.count ≢ 0 → 
 
   still : Keeps Rests × Keeps Waits × Keeps Leaves
   unfolding cache_after memory_after
-  still = (record { cache = refl; memory = refl; tag = refl }, record { cache = refl; memory = refl; tag = refl }, record { cache = refl; memory = refl; tag = refl })
+  still = (record { cache = refl; memory = refl; tag = refl }, record { cache = refl; memory = refl; tag = refl }, record { cache = refl; memory =
+      refl; tag = refl })
 
   missed : (m way count : ℕ) (owner : Bool) → Keeps (Misses m way count owner)
   unfolding cache_after memory_after
@@ -242,7 +246,8 @@ module _ (s : State) (k : ℕ) (is : IsSteady s) (busy : s.port.count ≢ 0 → 
       go : (a : Bool) → (slot_of c.shape (set_of c.shape m) way == l) ≡ a → IsHeld (cycle s).cache l (if a then Clean m else Clean (line_at c l))
           → TagCycleBy s k (a && true)
       go true p g = ends (Fills m way) e (settles-fill m way (sym at ∙ eqb-true (slot_of c.shape (set_of c.shape m) way) l p))
-      go false p g = stays (Fills m way) e (keeps-fill m way (λ q. other-slot (slot_of c.shape (set_of c.shape m) way) l p (at ∙ q))) (clean-held (cycle s).cache l (line_at c l) g)
+      go false p g = stays (Fills m way) e (keeps-fill m way (λ q. other-slot (slot_of c.shape (set_of c.shape m) way) l p (at ∙ q)))
+          (clean-held (cycle s).cache l (line_at c l) g)
 
   by-move : (v : Move) → move s ≡ v → Tells c load store v → Told v
   by-move Rests e t = stays Rests e still.0 (clean-held (cycle s).cache l (line_at c l) (held Rests e))

@@ -47,7 +47,8 @@ looked-before : (shape : Shape) (l line t : ℕ) (es : List CacheEvent) (e : Cac
     → looked_up shape l line t (es ++ e ∷ []) ≡ false → looked_up shape l line t es ≡ false
 unfolding looked_up
 looked-before shape l line t es e h off =
-    by-before (first_event (has_line line) t es) (first_event (fills shape l) t es) (nat_le t e.cycle && has_line line e) (nat_le t e.cycle && fills shape l e) e
+    by-before (first_event (has_line line) t es) (first_event (fills shape l) t es) (nat_le t e.cycle && has_line line e)
+        (nat_le t e.cycle && fills shape l e) e
     (first-all (λ a. a.cycle < e.cycle) (has_line line) t es h)
     (sym (ap (λ r. is_by r (or_event (first_event (fills shape l) t es) (nat_le t e.cycle && fills shape l e) e)) (first-push (has_line line) t es e))
     ∙ sym (ap (λ f. is_by (first_event (has_line line) t (es ++ e ∷ [])) f) (first-push (fills shape l) t es e)) ∙ off)
@@ -61,12 +62,15 @@ looked-now : (shape : Shape) (l line t : ℕ) (es : List CacheEvent) (e : CacheE
 unfolding looked_up
 looked-now shape l line t es e from none before off =
     off-line line (nat_le t e.cycle) e (grind (arith, nat_tests))
-    (by-now (first_event (has_line line) t es) (nat_le t e.cycle && has_line line e) (nat_le t e.cycle && fills shape l e) e (ap (λ f. is_by (first_event (has_line line) t es) f) (sym none) ∙ before)
-    (ap (λ f. is_by (or_event (first_event (has_line line) t es) (nat_le t e.cycle && has_line line e) e) (or_event f (nat_le t e.cycle && fills shape l e) e)) (sym none)
+    (by-now (first_event (has_line line) t es) (nat_le t e.cycle && has_line line e) (nat_le t e.cycle && fills shape l e) e
+        (ap (λ f. is_by (first_event (has_line line) t es) f) (sym none) ∙ before)
+    (ap (λ f. is_by (or_event (first_event (has_line line) t es) (nat_le t e.cycle && has_line line e) e)
+        (or_event f (nat_le t e.cycle && fills shape l e) e)) (sym none)
     ∙ sym (ap (λ r. is_by r (or_event (first_event (fills shape l) t es) (nat_le t e.cycle && fills shape l e) e)) (first-push (has_line line) t es e))
     ∙ sym (ap (λ f. is_by (first_event (has_line line) t (es ++ e ∷ [])) f) (first-push (fills shape l) t es e)) ∙ off))
 
-module _ (s : State) (k : ℕ) (is : IsSteady s) (busy : (n : ℕ) → (state_after n s).port.count ≢ 0 → WorksForMiss (state_after n s)) (below : k < slot_count s.cache.shape * tag_bits s.cache.shape)
+module _ (s : State) (k : ℕ) (is : IsSteady s) (busy : (n : ℕ) → (state_after n s).port.count ≢ 0 → WorksForMiss (state_after n s))
+    (below : k < slot_count s.cache.shape * tag_bits s.cache.shape)
     (clean : IsCleanSlot s.cache (tag_slot s.cache k)) where
   abbrev shape : Shape
   shape = s.cache.shape
