@@ -2,7 +2,6 @@
 use Rattle.std.proofs.Common.{◌≡◌, ℕ, ◌+◌, ◌*◌, ◌%◌, List, [], ◌∷◌, length, ◌++◌, take, arith, refl, ap, ◌∙◌}
 use Rattle.std.proofs.Math.Seq.{take-length}
 use Rattle.std.proofs.lemmas.List.{length-append}
-use Rattle.std.specs.Int.{w32, to_le_bytes}
 use Rattle.std.specs.List.{sum_by}
 use Rattle.elf_fixture.specs.declared.Header.{Header}
 use Rattle.elf_fixture.specs.declared.Segment.{Segment}
@@ -22,7 +21,9 @@ length_of_file headers bytes =
     )
 
 -- a file of as many headers as segments, and of their bytes
-pub length_of_segmented : (segments : List Segment) (headers : List Header) (bytes whole : List ℕ) (k : ℕ) → whole ≡ file_of headers bytes → length headers ≡ k → length bytes ≡ sum_by (λ s. length s.bytes.now) (take k segments) → k ≡ length segments → length whole ≡ 52 + 32 * length segments + sum_by (λ s. length s.bytes.now) segments
+pub length_of_segmented : (segments : List Segment) (headers : List Header) (bytes whole : List ℕ) (k : ℕ) → whole ≡ file_of headers bytes
+    → length headers ≡ k → length bytes ≡ sum_by (λ s. length s.bytes.now) (take k segments) → k ≡ length segments
+    → length whole ≡ 52 + 32 * length segments + sum_by (λ s. length s.bytes.now) segments
 length_of_segmented segments headers bytes whole k e h b l =
     let all : take k segments ≡ segments = ap (λ n. take n segments) l ∙ take-length segments in
     let size : length bytes ≡ sum_by (λ s. length s.bytes.now) segments = b ∙ ap (sum_by (λ s. length s.bytes.now)) all in

@@ -1,5 +1,6 @@
 -- Accepted contents mean an image: the bytes of its RAM are the file's, or 0.
-use Rattle.std.proofs.Common.{◌⊎◌, inl, inr, ℕ, ◌+◌, ◌-◌, ◌^◌, ◌<◌, ◌≤◌, Bool, true, false, cond, List, [], ◌∷◌, map, slice_index, slice_range, subst, sym, arith, lit<}
+use Rattle.std.proofs.Common.{◌⊎◌, inl, inr, ℕ, ◌+◌, ◌-◌, ◌^◌, ◌<◌, ◌≤◌, Bool, true, false, cond, List, [], ◌∷◌, map, slice_index, slice_range, subst, sym}
+use Rattle.std.proofs.Common.{arith, lit<}
 use Rattle.std.specs.List.{All, filter, range_with_len}
 use Rattle.std.proofs.Math.ListN.{get_or-eq_default}
 use Rattle.std.proofs.lemmas.Bool.{cases_lt}
@@ -26,12 +27,14 @@ ram_below f base size k below = go (cases_lt k size)
   where
     go : (k < size) ⊎ (size ≤ k) → slice_index (map f (range_with_len base size)) k < 256
     go (inl l) = subst (λ n. n < 256) (sym (get_or-map-range_with_len f base size k (base + k) 0 l (omega arith))) (below (base + k))
-    go (inr m) = subst (λ n. n < 256) (sym (get_or-eq_default (map f (range_with_len base size)) 0 (omega (arith, length-map-range_with_len f base size)))) (lit< tt)
+    go (inr m) =
+        subst (λ n. n < 256) (sym (get_or-eq_default (map f (range_with_len base size)) 0 (omega (arith, length-map-range_with_len f base size)))) (lit< tt)
 
 pub accepted-image_of : (file : List ℕ) (size : ℕ) → AcceptedMeansImage file size
 unfolding image_of segments_of
 accepted-image_of file size = record {
   image = λ all ram accepted.
       accepted-IsImage (segments_of file) (entry_of file) size ram (accepted_parts file size accepted).2
-      (λ k. ram_below (byte_in (segments_of file)) (base_of (segments_of file)) size k (λ a. byte_below file (filter is_loadable (program_headers file)) a all));
+      (λ k. ram_below (byte_in (segments_of file)) (base_of (segments_of file)) size k
+      (λ a. byte_below file (filter is_loadable (program_headers file)) a all));
 }

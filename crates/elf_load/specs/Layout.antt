@@ -1,5 +1,5 @@
 -- How segments lie one after the other.
-use Rattle.std.specs.Prelude.{◌≡◌, ℕ, ◌+◌, ◌%◌, ◌^◌, ◌<◌, ◌≤◌, List}
+use Rattle.std.specs.Prelude.{◌≡◌, ℕ, ◌+◌, ◌%◌, ◌<◌, ◌≤◌, List}
 use Rattle.std.specs.List.{All, AllPairs}
 use Rattle.elf_load.specs.declared.sizes.TheConstants.{BLOCK, LEAST_RAM, MOST_RAM}
 use Rattle.elf_load.specs.Headers.{LoadSegment}

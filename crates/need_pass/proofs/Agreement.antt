@@ -22,7 +22,8 @@ use Rattle.need_pass.proofs.Passes.{needed_bit}
 use Rattle.need_pass.proofs.TwinEffects.{IsAllowed, allowed, same_access, same_put, same_end, same_register, same_given, same_memory}
 use Rattle.need_pass.proofs.Twins.{Twins, asked_twins, judged_twins}
 use Rattle.rv_isa.proofs.Ranges.{operand_below}
-use Rattle.need_pass.proofs.OneStep.{same_operand, writes_is, put_reg-at, loaded_below, done_at, same_clocks, same_address, registers_next, memory_next, pc_next, count_next, clocks_next, seen_by, write_recorded}
+use Rattle.rv_isa.proofs.NextState.{registers_next, memory_next, pc_next, count_next, clocks_next}
+use Rattle.need_pass.proofs.OneStep.{same_operand, writes_is, put_reg-at, loaded_below, done_at, same_clocks, same_address, seen_by, write_recorded}
 
 -- The two states, of which s is recorded, and the instruction that both are at.
 module _ (image : LoadedImage) (t : List Retired) (s u : State) (is : IsImage image) (ws : IsWords s) (wu : IsWords u) (agree : Agrees (retired_at image s ∷ t) s u) where

@@ -1,6 +1,7 @@
 pub mod Accessed
 pub mod Agreement
 pub mod ByteBits
+pub mod Facts
 pub mod Histories
 pub mod Immediates
 pub mod MaskBits

@@ -1,5 +1,5 @@
 -- The row of a code and the row of a word, by their places in the table.
-use Rattle.std.proofs.Common.{◌≡◌, ℕ, zero, suc, ◌+◌, ◌<◌, ◌≤◌, ◌==◌, ◌&&◌, ◌⊎◌, inl, inr, Bool, true, false, cond, List, [], ◌∷◌, length, Some}
+use Rattle.std.proofs.Common.{◌≡◌, ℕ, zero, suc, ◌+◌, ◌<◌, ◌≤◌, ◌==◌, ◌&&◌, ◌||◌, not, ◌⊎◌, inl, inr, Bool, true, false, cond, List, [], ◌∷◌, length, Some}
 use Rattle.std.proofs.Common.{arith, ap, sym, ◌∙◌, refl, subst}
 use Rattle.std.proofs.lemmas.Bool.{and_parts, eqb-true, eq-eqb, ne_eqb}
 use Rattle.std.specs.List.{list_all}
@@ -101,6 +101,11 @@ each_in test (r ∷ rs) code h k =
 pub each_row : (test : Row → Bool) → list_all test rows ≡ true → (code : ℕ) → test (row_of code) ≡ true
 unfolding row_of
 each_row test h code = each_in test rows code (and_parts _ _ h).0 h
+
+-- for tests of the form "if t then u"
+pub implied : (t u : Bool) → t ≡ true → (not t || u) ≡ true → u ≡ true
+implied true u e h = h
+implied false u e h = absurd cc
 
 -- ---- the row of a word
 

@@ -2,7 +2,7 @@
 use Rattle.std.proofs.Common.{◌≡◌, ◌≢◌, ℕ, ◌*◌, ◌/◌, ◌||◌, ◌&&◌, not, inl, inr, Bool, true, false, cond, arith, ap, refl, ◌∙◌}
 use Rattle.std.proofs.lemmas.Bool.Decides.{nat_tests}
 use Rattle.rv_table.proofs.Encoded.{fits_form}
-use Rattle.rv_table.proofs.RowLookups.{each_row}
+use Rattle.rv_table.proofs.RowLookups.{each_row, implied}
 use Rattle.rv_table.specs.Accesses.{load_size, store_size}
 use Rattle.rv_table.specs.Actions.{action, asked, asked_by, is_aligned, judged, misses_target, some_executable, value_by}
 use Rattle.rv_table.specs.Arithmetic.{sum32}
@@ -52,10 +52,6 @@ named_rd B op h n = absurd (n (grind (arith, nat_tests)))
 named_rd S op h n = absurd (n (grind (arith, nat_tests)))
 named_rd Call op h n = absurd (n (grind (arith, nat_tests)))
 named_rd NoFields op h n = absurd (n (grind (arith, nat_tests)))
-
-implied : (t u : Bool) → t ≡ true → (not t || u) ≡ true → u ≡ true
-implied true u e h = h
-implied false u e h = absurd cc
 
 writing : (op : Op) → well_formed op ≡ true → op.rd ≢ 0 → may_write (operation_of op.code) ≡ true
 unfolding form_of operation_of

@@ -149,7 +149,8 @@ module _ (shape : Shape) (line way : ℕ) (cache : Slots) (ram : ℕ → ℕ) (b
   pub refilled-given : (p : ℕ) → p / 16 ≡ line → given shape refill p ≡ Some (ram p)
   refilled-given p e =
       ap (option_map (λ w. (refill (set_of shape (p / 16)) w).bytes (p % 16))) (ap (way_of shape refill) e ∙ refilled-way)
-      ∙ ap Some (ap (λ n. (refill (set_of shape n) way).bytes (p % 16)) e ∙ ap (λ (slot : Slot). slot.bytes (p % 16)) (there (place home way came cache home way)) ∙ filled-byte shape ram line p e)
+      ∙ ap Some (ap (λ n. (refill (set_of shape n) way).bytes (p % 16)) e ∙ ap (λ (slot : Slot). slot.bytes (p % 16))
+      (there (place home way came cache home way)) ∙ filled-byte shape ram line p e)
     where
       there : Place home way came cache home way → refill home way ≡ came
       there (Here e f is) = is
@@ -168,7 +169,8 @@ module _ (shape : Shape) (line way : ℕ) (cache : Slots) (ram : ℕ → ℕ) (b
       go : Place home way came cache (set_of shape other) w → has shape refill other w ≡ has shape cache other w
       go (Here e f is) =
           ap (holds shape other) is
-          ∙ both (holds shape other came) (holds shape other (cache home way)) (λ h. ne (holds-one shape other line came e h (filled-self shape ram line))) (apart e)
+          ∙ both (holds shape other came) (holds shape other (cache home way)) (λ h. ne (holds-one shape other line came e h (filled-self shape ram line)))
+          (apart e)
           ∙ sym (ap (holds shape other) (was_there (set_of shape other) w e f))
       go (There off is) = ap (holds shape other) is
 
@@ -211,14 +213,16 @@ writes-lanes line word mask value c sized w = record {
     go p None miss =
         ap (λ (d : Contents). byte_of d p) (written-miss c line word mask value (sym miss)) ∙ missed p miss (way_of c.shape (slots c) (p / 16)) refl
     go p (Some way) hit =
-        byte_of-given (written line word mask value c) c.shape _ p (shape-after_write c line word mask value) (slots-after_write c line word mask value way sized w hit)
+        byte_of-given (written line word mask value c) c.shape _ p (shape-after_write c line word mask value)
+        (slots-after_write c line word mask value way sized w hit)
         ∙ written-given c.shape line word mask value way (slots c) hit p
 
 -- the same of what the calls compute
 pub put-lanes : (line word mask value way : ℕ) (c d : Contents) → IsSized c → word < 4 → Some way ≡ way_of c.shape (slots c) line
     → d ≡ put (set_of c.shape line) way word mask value c → WritesLanes line word mask value c d
 put-lanes line word mask value way c d sized w hit e =
-    subst (λ (x : Contents). WritesLanes line word mask value c x) (written-hit c line word mask value way hit ∙ sym e) (writes-lanes line word mask value c sized w)
+    subst (λ (x : Contents). WritesLanes line word mask value c x) (written-hit c line word mask value way hit ∙ sym e)
+    (writes-lanes line word mask value c sized w)
 
 pub missed-lanes : (line word mask value : ℕ) (c : Contents) → IsSized c → word < 4 → None ≡ way_of c.shape (slots c) line
     → WritesLanes line word mask value c c
@@ -236,7 +240,8 @@ module _ (image : LoadedImage) (line : ℕ) (memory : List ℕ) (c : Contents) (
   next-slots : slots (refilled image line memory c) ≡ put_slot (set_of c.shape line) (way_for c line) (filled_slot c.shape next_ram line) (slots c)
   next-slots =
       slots-after_refill image line memory c is long sized
-      ∙ ap (λ (ram : ℕ → ℕ). put_slot (set_of c.shape line) (way_for c line) (filled_slot c.shape ram line) (slots c)) (sym (ram-after_refill image line memory c is long sized))
+      ∙ ap (λ (ram : ℕ → ℕ). put_slot (set_of c.shape line) (way_for c line) (filled_slot c.shape ram line) (slots c))
+      (sym (ram-after_refill image line memory c is long sized))
 
   next-byte : (p : ℕ) → byte_of (refilled image line memory c) p
       ≡ given c.shape (put_slot (set_of c.shape line) (way_for c line) (filled_slot c.shape next_ram line) (slots c)) p
@@ -252,10 +257,10 @@ module _ (image : LoadedImage) (line : ℕ) (memory : List ℕ) (c : Contents) (
     slot = next-slots;
   }
 
-  pub came-line : (d : Contents) (new : List ℕ) (set way : ℕ) → set ≡ set_of c.shape line → way ≡ victim c.shape (slots c) c.nodes set
-      → new ≡ written_back image set way c memory → d ≡ filled image line way new c → RefillsLine image line c d memory new
+  pub came-line : (d : Contents) (new : List ℕ) (at way : ℕ) → at ≡ set_of c.shape line → way ≡ victim c.shape (slots c) c.nodes at
+      → new ≡ written_back image at way c memory → d ≡ filled image line way new c → RefillsLine image line c d memory new
   unfolding memory_refilled refilled
-  came-line d new set way s w n e =
+  came-line d new at way s w n e =
       let way-is : way ≡ way_for c line = w ∙ ap (victim c.shape (slots c) c.nodes) s in
       let new-is : new ≡ memory_refilled image line c memory =
       n ∙ ap (λ (k : ℕ). written_back image k way c memory) s ∙ ap (λ (k : ℕ). written_back image (set_of c.shape line) k c memory) way-is in

@@ -51,7 +51,8 @@ sized-after_read c line sized = go (found c line)
 
 put-sized : (c : Contents) (set way word mask value : ℕ) → IsSized c → IsSized (put set way word mask value c)
 unfolding put
-put-sized c set way word mask value sized = sized-same c _ sized refl (length-put_word _ mask value c.bytes) refl refl (length-set c.dirty _ _) (length-used c.shape set way c.nodes)
+put-sized c set way word mask value sized =
+    sized-same c _ sized refl (length-put_word _ mask value c.bytes) refl refl (length-set c.dirty _ _) (length-used c.shape set way c.nodes)
 
 pub sized-after_write : (c : Contents) (line word mask value : ℕ) → IsSized c → IsSized (written line word mask value c)
 unfolding written
@@ -61,16 +62,22 @@ sized-after_write c line word mask value sized = go (found c line)
     go (Some w) = put-sized c (set_of c.shape line) w word mask value sized
     go None = sized
 
-filled-sized : (image : LoadedImage) (line way : ℕ) (memory : List ℕ) (c : Contents) → IsImage image → length memory ≡ length image.ram → way < c.shape.ways → IsSized c → IsSized (filled image line way memory c)
+filled-sized : (image : LoadedImage) (line way : ℕ) (memory : List ℕ) (c : Contents) → IsImage image → length memory ≡ length image.ram → way < c.shape.ways
+    → IsSized c → IsSized (filled image line way memory c)
 unfolding filled
 filled-sized image line way memory c is long w sized =
-    let below : slot_of c.shape (set_of c.shape line) way < slot_count c.shape = slot_below c.shape (set_of c.shape line) way sized.shape (set_below c.shape line sized.shape) w in
-    sized-same c _ sized refl (length-replace c.bytes (line_bytes image line memory) _ _ (omega (arith, length-line_bytes image line memory is long)) (omega (arith, sized.bytes))) (length-set c.tags _ _) (length-set c.valid _ _) (length-set c.dirty _ _) (length-used c.shape (set_of c.shape line) way c.nodes)
+    let below : slot_of c.shape (set_of c.shape line) way < slot_count c.shape =
+    slot_below c.shape (set_of c.shape line) way sized.shape (set_below c.shape line sized.shape) w in
+    sized-same c _ sized refl (length-replace c.bytes (line_bytes image line memory) _ _ (omega (arith, length-line_bytes image line memory is long))
+    (omega (arith, sized.bytes))) (length-set c.tags _ _) (length-set c.valid _ _) (length-set c.dirty _ _) (length-used c.shape
+    (set_of c.shape line) way c.nodes)
 
-pub sized-after_refill : (image : LoadedImage) (line : ℕ) (memory : List ℕ) (c : Contents) → IsImage image → length memory ≡ length image.ram → IsSized c → IsSized (refilled image line memory c)
+pub sized-after_refill : (image : LoadedImage) (line : ℕ) (memory : List ℕ) (c : Contents) → IsImage image → length memory ≡ length image.ram → IsSized c
+    → IsSized (refilled image line memory c)
 unfolding refilled
 sized-after_refill image line memory c is long sized =
-    filled-sized image line (way_for c line) (memory_refilled image line c memory) c is (length-after_refill image line memory c is long sized) (victim-below c.shape (slots c) c.nodes (set_of c.shape line) sized.shape) sized
+    filled-sized image line (way_for c line) (memory_refilled image line c memory) c is (length-after_refill image line memory c is long sized)
+    (victim-below c.shape (slots c) c.nodes (set_of c.shape line) sized.shape) sized
 
 -- ---- bytes
 
@@ -118,11 +125,15 @@ put_line-kept image line bytes memory h l = go (in_ram image (16 * line))
     go true = replaced-kept memory bytes _ _ l h
     go false = l
 
-written_back-kept : (image : LoadedImage) (set way : ℕ) (c : Contents) (memory : List ℕ) → AreBytes c.bytes → AreBytes memory → AreBytes (written_back image set way c memory)
+written_back-kept : (image : LoadedImage) (set way : ℕ) (c : Contents) (memory : List ℕ) → AreBytes c.bytes → AreBytes memory
+    → AreBytes (written_back image set way c memory)
 unfolding written_back
-written_back-kept image set way c memory h l = go (slice_index_or c.valid (slot_of c.shape set way) false && slice_index_or c.dirty (slot_of c.shape set way) false)
+written_back-kept image set way c memory h l =
+    go (slice_index_or c.valid (slot_of c.shape set way) false && slice_index_or c.dirty (slot_of c.shape set way) false)
   where
-    go : (b : Bool) → AreBytes (cond b (put_line image (line_of c.shape set (slice_index c.tags (slot_of c.shape set way))) (slice_range c.bytes (16 * slot_of c.shape set way) (16 * slot_of c.shape set way + 16)) memory) memory)
+    go : (b : Bool)
+        → AreBytes (cond b (put_line image (line_of c.shape set (slice_index c.tags (slot_of c.shape set way)))
+        (slice_range c.bytes (16 * slot_of c.shape set way) (16 * slot_of c.shape set way + 16)) memory) memory)
     go true = put_line-kept image _ _ memory (range-kept c.bytes _ _ h) l
     go false = l
 
@@ -142,15 +153,18 @@ bytes-after_write c line word mask value are = go (found c line)
     go (Some w) = put_word-kept _ mask value c.bytes are
     go None = are
 
-pub memory-bytes-after_refill : (image : LoadedImage) (line : ℕ) (c : Contents) (memory : List ℕ) → AreBytes c.bytes → AreBytes memory → AreBytes (memory_refilled image line c memory)
+pub memory-bytes-after_refill : (image : LoadedImage) (line : ℕ) (c : Contents) (memory : List ℕ) → AreBytes c.bytes → AreBytes memory
+    → AreBytes (memory_refilled image line c memory)
 unfolding memory_refilled
 memory-bytes-after_refill image line c memory h l = written_back-kept image (set_of c.shape line) (way_for c line) c memory h l
 
-filled-bytes : (image : LoadedImage) (line way : ℕ) (memory : List ℕ) (c : Contents) → AreBytes c.bytes → AreBytes memory → AreBytes (filled image line way memory c).bytes
+filled-bytes : (image : LoadedImage) (line way : ℕ) (memory : List ℕ) (c : Contents) → AreBytes c.bytes → AreBytes memory
+    → AreBytes (filled image line way memory c).bytes
 unfolding filled
 filled-bytes image line way memory c h l = replaced-kept c.bytes (line_bytes image line memory) _ _ h (line_bytes-kept image line memory l)
 
-pub bytes-after_refill : (image : LoadedImage) (line : ℕ) (memory : List ℕ) (c : Contents) → AreBytes c.bytes → AreBytes (memory_refilled image line c memory) → AreBytes (refilled image line memory c).bytes
+pub bytes-after_refill : (image : LoadedImage) (line : ℕ) (memory : List ℕ) (c : Contents) → AreBytes c.bytes
+    → AreBytes (memory_refilled image line c memory) → AreBytes (refilled image line memory c).bytes
 unfolding refilled
 bytes-after_refill image line memory c h l = filled-bytes image line (way_for c line) (memory_refilled image line c memory) c h l
 
@@ -167,7 +181,8 @@ put-kept c set way word mask value is = record {
   widths = is.widths;
 }
 
-filled-kept : (image : LoadedImage) (line way : ℕ) (memory : List ℕ) (c : Contents) → IsImage image → length memory ≡ length image.ram → AreBytes memory → line < 2 ^ 28 → way < c.shape.ways → IsContents c → IsContents (filled image line way memory c)
+filled-kept : (image : LoadedImage) (line way : ℕ) (memory : List ℕ) (c : Contents) → IsImage image → length memory ≡ length image.ram → AreBytes memory
+    → line < 2 ^ 28 → way < c.shape.ways → IsContents c → IsContents (filled image line way memory c)
 unfolding filled
 filled-kept image line way memory c is_image long are l w is = record {
   sized = filled-sized image line way memory c is_image long w is.sized;
@@ -191,7 +206,9 @@ contents-after_write c line word mask value is = go (found c line)
     go (Some way) = put-kept c (set_of c.shape line) way word mask value is
     go None = is
 
-pub contents-after_refill : (image : LoadedImage) (line : ℕ) (memory : List ℕ) (c : Contents) → IsImage image → length memory ≡ length image.ram → AreBytes (memory_refilled image line c memory) → line < 2 ^ 28 → IsContents c → IsContents (refilled image line memory c)
+pub contents-after_refill : (image : LoadedImage) (line : ℕ) (memory : List ℕ) (c : Contents) → IsImage image → length memory ≡ length image.ram
+    → AreBytes (memory_refilled image line c memory) → line < 2 ^ 28 → IsContents c → IsContents (refilled image line memory c)
 unfolding refilled
 contents-after_refill image line memory c is_image long are l is =
-    filled-kept image line (way_for c line) (memory_refilled image line c memory) c is_image (length-after_refill image line memory c is_image long is.sized) are l (victim-below c.shape (slots c) c.nodes (set_of c.shape line) is.sized.shape) is
+    filled-kept image line (way_for c line) (memory_refilled image line c memory) c is_image
+    (length-after_refill image line memory c is_image long is.sized) are l (victim-below c.shape (slots c) c.nodes (set_of c.shape line) is.sized.shape) is

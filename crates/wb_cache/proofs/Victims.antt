@@ -14,7 +14,8 @@ chosen : (b x y : Bool) → cond b (2 + number_of x) (number_of y) < 4
 chosen true x y = omega (arith, number_of_is_bit x)
 chosen false x y = omega (arith, number_of_is_bit y)
 
-replaced-by : (ways : ℕ) (a b d e : Bool) → (ways ≡ 1) ⊎ (ways ≡ 2) ⊎ (ways ≡ 4) → cond (ways == 1) 0 (cond (ways == 2) (number_of a) (cond b (2 + number_of d) (number_of e))) < ways
+replaced-by : (ways : ℕ) (a b d e : Bool) → (ways ≡ 1) ⊎ (ways ≡ 2) ⊎ (ways ≡ 4)
+    → cond (ways == 1) 0 (cond (ways == 2) (number_of a) (cond b (2 + number_of d) (number_of e))) < ways
 replaced-by ways a b d e (inl q) = rw q (omega arith)
 replaced-by ways a b d e (inr (inl q)) = rw q (number_of_is_bit a)
 replaced-by ways a b d e (inr (inr q)) = rw q (chosen b d e)

@@ -64,10 +64,7 @@ impl Cache {
             tags: LineTags::zeroed(alloc, shape)?,
             valid: Flags::cleared(alloc, slots)?,
             dirty: Flags::cleared(alloc, slots)?,
-            nodes: Flags::cleared(
-                alloc,
-                u32::from(shape.sets) * (u32::from(shape.ways) - 1),
-            )?,
+            nodes: Flags::cleared(alloc, u32::from(shape.sets) * (u32::from(shape.ways) - 1))?,
         })
     }
 
