@@ -1,15 +1,14 @@
 -- Where registers and memories can differ after writes and stores, and what is the same where it is needed.
-use Rattle.std.proofs.Common.{◌≡◌, ◌≢◌, ◌↔◌, ◌⊎◌, ℕ, ◌+◌, ◌*◌, ◌/◌, ◌%◌, ◌^◌, ◌<◌, ◌≤◌, ◌==◌, true, false, Bool, refl, sym, ◌∙◌, ap, arith, inl, inr, IsTrue}
+use Rattle.std.proofs.Common.{◌≡◌, ◌↔◌, ℕ, ◌+◌, ◌*◌, ◌/◌, ◌^◌, ◌<◌, true, false, Bool, refl, sym, ◌∙◌, ap, arith, inl, inr, IsTrue}
 use Rattle.std.specs.Int.{bit_at}
 use Rattle.std.specs.Prelude.{bit_and, bit_xor, nat_eq, Option, Some, None}
 use Rattle.std.proofs.lemmas.Bool.{cases_lt, cases_eq, eqb-true}
 use Rattle.std.proofs.lemmas.Bool.Decides.{nat_tests}
 use Rattle.std.proofs.lemmas.Nat.Bits.{bit_at-lt, bit_at-zero, bit_at_and, bit_at_xor, bit_at_above, same_from_bits}
-use Rattle.rv_table.specs.Accesses.{accesses, stored, store_size}
+use Rattle.rv_table.specs.Accesses.{accesses, stored}
 use Rattle.rv_table.proofs.Loads.{accessed}
 use Rattle.rv_table.specs.declared.operation.StoreKind.{StoreKind}
 use Rattle.rv_table.specs.declared.operation.StoreKind.TheVariants.{Sb, Sh, Sw}
-use Rattle.rv_isa.specs.Instruction.{put_reg}
 use Rattle.need_pass.specs.Tables.{Needs, byte_need, reg_need}
 use Rattle.eval_mask.specs.Aftermaths.{memory_after, registers_after, stored_over, written}
 use Rattle.eval_mask.specs.Compared.{SameByte, SameBytes, SameCovered, SameRegister, SameRegisters, SameRun, SameWhere, covers}
@@ -22,22 +21,22 @@ none_differs : (n mask a b : ℕ) → bit_and mask (bit_xor a b) ≡ 0 → SameW
 none_differs n mask a b e = record {
   same =
       λ k l one.
-          let z : bit_at (bit_and mask (bit_xor a b)) k ≡ 0 = ap (λ (v : ℕ). bit_at v k) e ∙ bit_at-zero k in
-          omega (arith, z, one, bit_at_and mask (bit_xor a b) k, bit_at_xor a b k, bit_at-lt a k, bit_at-lt b k);
+      let z : bit_at (bit_and mask (bit_xor a b)) k ≡ 0 = ap (λ (v : ℕ). bit_at v k) e ∙ bit_at-zero k in
+      omega (arith, z, one, bit_at_and mask (bit_xor a b) k, bit_at_xor a b k, bit_at-lt a k, bit_at-lt b k);
 }
 
 all_same : (n mask a b : ℕ) → mask < 2 ^ n → SameWhere n mask a b → bit_and mask (bit_xor a b) ≡ 0
 all_same n mask a b h s =
     same_from_bits (bit_and mask (bit_xor a b)) 0
     (λ i.
-        elim (cases_lt i n) [
-          | inl l ↦
-              elim (cases_eq (bit_at mask i) 1) [
-                | inl one ↦ let e = s.same i l one in omega (arith, e, bit_at-zero i, bit_at_and mask (bit_xor a b) i, bit_at_xor a b i, bit_at-lt a i, bit_at-lt b i)
-                | inr no_one ↦ omega (arith, no_one, bit_at-lt mask i, bit_at-zero i, bit_at_and mask (bit_xor a b) i)
-              ]
-          | inr m ↦ omega (arith, bit_at_above mask n i h m, bit_at-zero i, bit_at_and mask (bit_xor a b) i)
-        ])
+    elim (cases_lt i n) [
+      | inl l ↦
+          elim (cases_eq (bit_at mask i) 1) [
+            | inl one ↦ let e = s.same i l one in omega (arith, e, bit_at-zero i, bit_at_and mask (bit_xor a b) i, bit_at_xor a b i, bit_at-lt a i, bit_at-lt b i)
+            | inr no_one ↦ omega (arith, no_one, bit_at-lt mask i, bit_at-zero i, bit_at_and mask (bit_xor a b) i)
+          ]
+      | inr m ↦ omega (arith, bit_at_above mask n i h m, bit_at-zero i, bit_at_and mask (bit_xor a b) i)
+    ])
 
 pub same_needed : (n mask a b : ℕ) → mask < 2 ^ n → IsTrue (nat_eq (bit_and mask (bit_xor a b)) 0) ↔ SameWhere n mask a b
 same_needed n mask a b h = (
@@ -53,7 +52,8 @@ same_all n mask a b e = record { same = λ k l one. ap (λ (v : ℕ). bit_at v k
 unwritten : (w : Write) (f : ℕ → ℕ) (r : ℕ) → (r ≡ w.rd → ⊥) → written w f r ≡ f r
 unwritten w f r ne = grind (arith, nat_tests)
 
-unwritten_after : (x : Aftermath) (f : ℕ → ℕ) (r : ℕ) → (r ≡ x.first.rd → ⊥) → (r ≡ x.below.write.rd → ⊥) → (r ≡ x.above.write.rd → ⊥) → registers_after x f r ≡ f r
+unwritten_after : (x : Aftermath) (f : ℕ → ℕ) (r : ℕ) → (r ≡ x.first.rd → ⊥) → (r ≡ x.below.write.rd → ⊥) → (r ≡ x.above.write.rd → ⊥)
+    → registers_after x f r ≡ f r
 unwritten_after x f r p q s =
     unwritten x.above.write (written x.below.write (written x.first f)) r s
     ∙ unwritten x.below.write (written x.first f) r q
@@ -63,30 +63,37 @@ unwritten_after x f r p q s =
 at_or : (P : ℕ → Type 0) (r s : ℕ) → P s → ((r ≡ s → ⊥) → P r) → P r
 at_or P r s here there = elim (cases_eq r s) [ inl e ↦ rw e here | inr ne ↦ there ne ]
 
-pub all_registers : (needs : Needs) (j : ℕ) (f : ℕ → ℕ) (x y : Aftermath) → SameRegister needs j (registers_after x f) (registers_after y f) x.first.rd → SameRegister needs j (registers_after x f) (registers_after y f) x.below.write.rd → SameRegister needs j (registers_after x f) (registers_after y f) x.above.write.rd → SameRegister needs j (registers_after x f) (registers_after y f) y.first.rd → SameRegister needs j (registers_after x f) (registers_after y f) y.below.write.rd → SameRegister needs j (registers_after x f) (registers_after y f) y.above.write.rd → SameRegisters needs j (registers_after x f) (registers_after y f)
+pub all_registers : (needs : Needs) (j : ℕ) (f : ℕ → ℕ) (x y : Aftermath)
+    → SameRegister needs j (registers_after x f) (registers_after y f) x.first.rd
+    → SameRegister needs j (registers_after x f) (registers_after y f) x.below.write.rd
+    → SameRegister needs j (registers_after x f) (registers_after y f) x.above.write.rd
+    → SameRegister needs j (registers_after x f) (registers_after y f) y.first.rd
+    → SameRegister needs j (registers_after x f) (registers_after y f) y.below.write.rd
+    → SameRegister needs j (registers_after x f) (registers_after y f) y.above.write.rd
+    → SameRegisters needs j (registers_after x f) (registers_after y f)
 all_registers needs j f x y a b c d e g =
     let P = SameRegister needs j (registers_after x f) (registers_after y f) in
     record {
       same =
           λ r.
-              at_or P r x.first.rd a
-              (λ na.
-                  at_or P r x.below.write.rd b
-                  (λ nb.
-                      at_or P r x.above.write.rd c
-                      (λ nc.
-                          at_or P r y.first.rd d
-                          (λ nd.
-                              at_or P r y.below.write.rd e
-                              (λ ne.
-                                  at_or P r y.above.write.rd g
-                                  (λ ng.
-                                      record {
-                                        same =
-                                            λ above below.
-                                                same_all 32 (reg_need needs r j) (registers_after x f r) (registers_after y f r)
-                                                (unwritten_after x f r na nb nc ∙ sym (unwritten_after y f r nd ne ng));
-                                      }))))));
+          at_or P r x.first.rd a
+          (λ na.
+          at_or P r x.below.write.rd b
+          (λ nb.
+          at_or P r x.above.write.rd c
+          (λ nc.
+          at_or P r y.first.rd d
+          (λ nd.
+          at_or P r y.below.write.rd e
+          (λ ne.
+          at_or P r y.above.write.rd g
+          (λ ng.
+          record {
+            same =
+                λ above below.
+                same_all 32 (reg_need needs r j) (registers_after x f r) (registers_after y f r)
+                (unwritten_after x f r na nb nc ∙ sym (unwritten_after y f r nd ne ng));
+          }))))));
     }
 
 -- ---- bytes
@@ -104,26 +111,29 @@ if_or : (P : Type 0) (t : Bool) → (t ≡ true → P) → (t ≡ false → P) �
 if_or P true here there = here refl
 if_or P false here there = there refl
 
-pub all_bytes : (needs : Needs) (j : ℕ) (f : ℕ → ℕ) (x y : Aftermath) → SameCovered needs j (memory_after x f) (memory_after y f) x.below.store → SameCovered needs j (memory_after x f) (memory_after y f) x.above.store → SameCovered needs j (memory_after x f) (memory_after y f) y.below.store → SameCovered needs j (memory_after x f) (memory_after y f) y.above.store → SameBytes needs j (memory_after x f) (memory_after y f)
+pub all_bytes : (needs : Needs) (j : ℕ) (f : ℕ → ℕ) (x y : Aftermath) → SameCovered needs j (memory_after x f) (memory_after y f) x.below.store
+    → SameCovered needs j (memory_after x f) (memory_after y f) x.above.store
+    → SameCovered needs j (memory_after x f) (memory_after y f) y.below.store
+    → SameCovered needs j (memory_after x f) (memory_after y f) y.above.store → SameBytes needs j (memory_after x f) (memory_after y f)
 all_bytes needs j f x y a b c d =
     record {
       same =
           λ p.
-              let P = SameByte needs j (memory_after x f) (memory_after y f) p in
-              if_or P (covers x.below.store p) (a.same p)
-              (λ na.
-                  if_or P (covers x.above.store p) (b.same p)
-                  (λ nb.
-                      if_or P (covers y.below.store p) (c.same p)
-                      (λ nc.
-                          if_or P (covers y.above.store p) (d.same p)
-                          (λ nd.
-                              record {
-                                same =
-                                    λ l.
-                                    same_all 8 (byte_need needs p j) (memory_after x f p) (memory_after y f p)
-                                    (uncovered_after x f p na nb ∙ sym (uncovered_after y f p nc nd));
-                              }))));
+          let P = SameByte needs j (memory_after x f) (memory_after y f) p in
+          if_or P (covers x.below.store p) (a.same p)
+          (λ na.
+          if_or P (covers x.above.store p) (b.same p)
+          (λ nb.
+          if_or P (covers y.below.store p) (c.same p)
+          (λ nc.
+          if_or P (covers y.above.store p) (d.same p)
+          (λ nd.
+          record {
+            same =
+                λ l.
+                same_all 8 (byte_need needs p j) (memory_after x f p) (memory_after y f p)
+                (uncovered_after x f p na nb ∙ sym (uncovered_after y f p nc nd));
+          }))));
     }
 
 -- ---- the bytes of a store
@@ -135,10 +145,10 @@ pub two_bytes : (needs : Needs) (j : ℕ) (f g : ℕ → ℕ) (from : ℕ) → S
 two_bytes needs j f g from s t = record {
   same =
       λ p l h.
-          elim (cases_eq p from) [
-            | inl q ↦ one_of needs j f g p from (sym q) s
-            | inr q ↦ one_of needs j f g p (from + 1) (omega arith) t
-          ];
+      elim (cases_eq p from) [
+        | inl q ↦ one_of needs j f g p from (sym q) s
+        | inr q ↦ one_of needs j f g p (from + 1) (omega arith) t
+      ];
 }
 
 pub first_byte : (needs : Needs) (j : ℕ) (f g : ℕ → ℕ) (from : ℕ) → SameRun needs j f g from 2 → SameByte needs j f g from
@@ -153,10 +163,10 @@ pub four_bytes : (needs : Needs) (j : ℕ) (f g : ℕ → ℕ) (from : ℕ) → 
 four_bytes needs j f g from s t = record {
   same =
       λ p l h.
-          elim (cases_lt p (from + 2)) [
-            | inl b ↦ s.same p l b
-            | inr b ↦ t.same p b (omega arith)
-          ];
+      elim (cases_lt p (from + 2)) [
+        | inl b ↦ s.same p l b
+        | inr b ↦ t.same p b (omega arith)
+      ];
 }
 
 pub low_bytes : (needs : Needs) (j : ℕ) (f g : ℕ → ℕ) (from : ℕ) → SameRun needs j f g from 4 → SameRun needs j f g from 2
@@ -167,29 +177,28 @@ high_bytes needs j f g from s = record { same = λ p l h. s.same p (omega arith)
 
 pub ruleset four = (four_bytes, low_bytes, high_bytes)
 
-covers_at : (size x p : ℕ) → p / size ≡ x / size → accesses size x p ≡ true
-covers_at size x p e = accessed size x p e
-
-covers_there : (size x p : ℕ) → accesses size x p ≡ true → p / size ≡ x / size
+pub covered_byte : (needs : Needs) (j : ℕ) (f g : ℕ → ℕ) (kind : StoreKind) (x v : ℕ) → kind ≡ Sb
+    → SameByte needs j f g x ↔ SameCovered needs j f g (Some (record { kind = kind; address = x; value = v }))
 unfolding accesses
-covers_there size x p e = eqb-true (p / size) (x / size) e
-
-pub covered_byte : (needs : Needs) (j : ℕ) (f g : ℕ → ℕ) (kind : StoreKind) (x v : ℕ) → kind ≡ Sb → SameByte needs j f g x ↔ SameCovered needs j f g (Some (record { kind = kind; address = x; value = v }))
 covered_byte needs j f g kind x v e = rw e (
-  λ s. record { same = λ p c. let q = covers_there 1 x p c in one_of needs j f g p x (omega arith) s },
-  λ s. s.same x (covers_at 1 x x refl),
+  λ s. record { same = λ p c. let q = eqb-true (p / 1) (x / 1) c in one_of needs j f g p x (omega arith) s },
+  λ s. s.same x (accessed 1 x x refl),
 )
 
-pub covered_half : (needs : Needs) (j : ℕ) (f g : ℕ → ℕ) (kind : StoreKind) (x v : ℕ) → kind ≡ Sh → SameRun needs j f g (x / 2 * 2) 2 ↔ SameCovered needs j f g (Some (record { kind = kind; address = x; value = v }))
+pub covered_half : (needs : Needs) (j : ℕ) (f g : ℕ → ℕ) (kind : StoreKind) (x v : ℕ) → kind ≡ Sh
+    → SameRun needs j f g (x / 2 * 2) 2 ↔ SameCovered needs j f g (Some (record { kind = kind; address = x; value = v }))
+unfolding accesses
 covered_half needs j f g kind x v e = rw e (
-  λ s. record { same = λ p c. let q = covers_there 2 x p c in s.same p (omega arith) (omega arith) },
-  λ s. record { same = λ p l m. s.same p (covers_at 2 x p (omega arith)) },
+  λ s. record { same = λ p c. let q = eqb-true (p / 2) (x / 2) c in s.same p (omega arith) (omega arith) },
+  λ s. record { same = λ p l m. s.same p (accessed 2 x p (omega arith)) },
 )
 
-pub covered_word : (needs : Needs) (j : ℕ) (f g : ℕ → ℕ) (kind : StoreKind) (x v : ℕ) → kind ≡ Sw → SameRun needs j f g (x / 4 * 4) 4 ↔ SameCovered needs j f g (Some (record { kind = kind; address = x; value = v }))
+pub covered_word : (needs : Needs) (j : ℕ) (f g : ℕ → ℕ) (kind : StoreKind) (x v : ℕ) → kind ≡ Sw
+    → SameRun needs j f g (x / 4 * 4) 4 ↔ SameCovered needs j f g (Some (record { kind = kind; address = x; value = v }))
+unfolding accesses
 covered_word needs j f g kind x v e = rw e (
-  λ s. record { same = λ p c. let q = covers_there 4 x p c in s.same p (omega arith) (omega arith) },
-  λ s. record { same = λ p l m. s.same p (covers_at 4 x p (omega arith)) },
+  λ s. record { same = λ p c. let q = eqb-true (p / 4) (x / 4) c in s.same p (omega arith) (omega arith) },
+  λ s. record { same = λ p l m. s.same p (accessed 4 x p (omega arith)) },
 )
 
 pub chained : {A B C : Type 0} → A ↔ B → B ↔ C → A ↔ C

@@ -1,6 +1,6 @@
 -- Bits past the last field.
-use Rattle.std.proofs.Common.{◌≡◌, ℕ, ◌+◌, ◌-◌, ◌<◌, ◌≤◌, List, [], ◌∷◌, true, false, ◌∙◌, ap, sym, arith}
-use Rattle.std.specs.Prelude.{Some, None}
+use Rattle.std.proofs.Common.{◌≡◌, ℕ, ◌-◌, ◌<◌, ◌≤◌, List, [], ◌∷◌, true, false, ◌∙◌, ap, arith}
+use Rattle.std.specs.Prelude.{None}
 use Rattle.bit_field.specs.Layouts.{bits_of, located}
 use Rattle.bit_field.proofs.Located.{located-none, located-on, is_located}
 use Rattle.pipe_latch.specs.DecodedBits as decoded

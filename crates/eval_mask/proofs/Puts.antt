@@ -1,7 +1,6 @@
 -- The bytes that two actions put, one after the other.
-use Rattle.std.proofs.Common.{◌≡◌, ◌↔◌, ℕ, [], ◌∷◌, refl, arith}
+use Rattle.std.proofs.Common.{◌≡◌, ℕ, [], refl, arith}
 use Rattle.std.specs.Prelude.{Option, Some, None}
-use Rattle.std.proofs.lemmas.Bool.Decides.{nat_tests}
 use Rattle.rv_isa.specs.Instruction.{with_byte}
 use Rattle.eval_mask.specs.Aftermaths.{output_after}
 use Rattle.eval_mask.specs.Compared.{first_of, second_of}
@@ -26,7 +25,8 @@ puts_same (Some a) (Some b) None (Some d) e f = grind arith
 puts_same (Some a) (Some b) (Some c) None e f = grind arith
 puts_same (Some a) (Some b) (Some c) (Some d) e f = grind arith
 
-puts_told : (a b c d : Option ℕ) → with_byte (with_byte [] a) b ≡ with_byte (with_byte [] c) d → (first_of a b ≡ first_of c d) × (second_of a b ≡ second_of c d)
+puts_told : (a b c d : Option ℕ) → with_byte (with_byte [] a) b ≡ with_byte (with_byte [] c) d
+    → (first_of a b ≡ first_of c d) × (second_of a b ≡ second_of c d)
 puts_told None None None None e = (refl, refl)
 puts_told None None None (Some d) e = grind arith
 puts_told None None (Some c) None e = grind arith
@@ -44,10 +44,12 @@ puts_told (Some a) (Some b) None (Some d) e = grind arith
 puts_told (Some a) (Some b) (Some c) None e = grind arith
 puts_told (Some a) (Some b) (Some c) (Some d) e = grind arith
 
-pub output_same : (x y : Aftermath) → first_of x.below.put x.above.put ≡ first_of y.below.put y.above.put → second_of x.below.put x.above.put ≡ second_of y.below.put y.above.put → output_after x ≡ output_after y
+pub output_same : (x y : Aftermath) → first_of x.below.put x.above.put ≡ first_of y.below.put y.above.put
+    → second_of x.below.put x.above.put ≡ second_of y.below.put y.above.put → output_after x ≡ output_after y
 output_same x y e f = puts_same x.below.put x.above.put y.below.put y.above.put e f
 
-pub output_told : (x y : Aftermath) → output_after x ≡ output_after y → (first_of x.below.put x.above.put ≡ first_of y.below.put y.above.put) × (second_of x.below.put x.above.put ≡ second_of y.below.put y.above.put)
+pub output_told : (x y : Aftermath) → output_after x ≡ output_after y
+    → (first_of x.below.put x.above.put ≡ first_of y.below.put y.above.put) × (second_of x.below.put x.above.put ≡ second_of y.below.put y.above.put)
 output_told x y e = puts_told x.below.put x.above.put y.below.put y.above.put e
 
 pub ruleset output_exactly = (output_same, output_told)

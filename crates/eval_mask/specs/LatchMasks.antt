@@ -1,6 +1,6 @@
 -- Which bits of the latches are logically masked (Mukherjee et al., MICRO 2003): flipping one leaves an outcome that agrees. The
 -- outcome is what MEM/WB, EX/MEM and ID/EX leave once they are completed, each with the fields that it holds.
-use Rattle.std.specs.Prelude.{◌≡◌, ℕ, ◌+◌, ◌<◌, ◌==◌, ◌&&◌, ◌↔◌, Bool, true, false, IsTrue, nat_lt, [], Option, Some, None, slice_index, if◌then◌else◌}
+use Rattle.std.specs.Prelude.{◌≡◌, ℕ, ◌+◌, ◌<◌, ◌==◌, ◌&&◌, ◌↔◌, Bool, true, false, nat_lt, [], Option, Some, None, slice_index, if◌then◌else◌}
 use Rattle.std.specs.Int.{bit_at}
 use Rattle.elf_load.specs.Image.{LoadedImage}
 use Rattle.rv_table.specs.Actions.{is_clocked}

@@ -120,8 +120,7 @@ fn same_four(
     requires room { from + 4 ≤ 2 ^ 32 }
     ensures { IsTrue result ↔ SameRun needs.now at (memory_after left.now (state_of arch.now).memory) (memory_after other.now (state_of arch.now).memory) from 4 }
 {
-    same_two(arch, needs, at, left, other, from)
-        && same_two(arch, needs, at, left, other, from + 2)
+    same_two(arch, needs, at, left, other, from) && same_two(arch, needs, at, left, other, from + 2)
 }
 
 fn same_stored(

@@ -125,7 +125,11 @@ impl Aftermath {
     pub fn byte(&self, address: u32, before: u8) -> u8
         ensures { (f : ℕ → ℕ) → f address ≡ before → result ≡ memory_after self.now f address }
     {
-        byte_over(&self.above.store, address, byte_over(&self.below.store, address, before))
+        byte_over(
+            &self.above.store,
+            address,
+            byte_over(&self.below.store, address, before),
+        )
     }
 }
 

@@ -51,7 +51,16 @@ fn check_first(rt: &impl Abort, arch: &Arch<'_>, table: &NeedTable) {
         imm: 5,
         count: 0,
     };
-    let mask = latch_bits(&MemWb::empty(), 0, &ExMem::empty(), &d, 0x4000, arch, table, 0);
+    let mask = latch_bits(
+        &MemWb::empty(),
+        0,
+        &ExMem::empty(),
+        &d,
+        0x4000,
+        arch,
+        table,
+        0,
+    );
     assert!(rt; has(mask.idex_low, 116));
     assert!(rt; has(mask.idex_low, 36));
     assert!(rt; !has(mask.idex_low, 33));

@@ -103,6 +103,8 @@ fn is_alike<L: Ledger>(
         return false;
     }
     let flipped = operate(arch, &op, applies);
+    // the run's length is a u32, so i + 1 is one
+    let _ = needs.len();
     agree(arch, &NO_WRITE, needs, i + 1, &flipped, own)
 }
 

@@ -1,4 +1,4 @@
-use Rattle.std.proofs.Common.{ℕ, ◌+◌, ◌≤◌}
+use Rattle.std.proofs.Common.{◌+◌, ◌≤◌}
 use Rattle.bit_field.specs.Layouts.{flip}
 use Rattle.eval_mask.specs.Cases.{IsMaskBelow}
 use Rattle.eval_mask.specs.WordMasks.{IsAlikeWord}
