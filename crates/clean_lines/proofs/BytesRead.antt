@@ -82,7 +82,7 @@ module _ (image : LoadedImage) (stores : List Entry) (a b : Slot) (word : ℕ) (
 abbrev pub ReadsAlike : Contents → Contents → Action → Move → Type 0
 ReadsAlike d c m (Reads word way) =
     (found d (word / 4) ≡ Some way) × (found c (word / 4) ≡ Some way) × (d.shape ≡ c.shape)
-        × AgreeOn (lanes_of m) (word % 4) (slots d (set_of c.shape (word / 4)) way) (slots c (set_of c.shape (word / 4)) way)
+    × AgreeOn (lanes_of m) (word % 4) (slots d (set_of c.shape (word / 4)) way) (slots c (set_of c.shape (word / 4)) way)
 ReadsAlike d c m _ = ⊤
 
 pub served-alike : (image : LoadedImage) (m : Action) (stores : List Entry) (d c : Contents) (v : Move) → All (λ b. b < 2 ^ 8) d.bytes
@@ -91,7 +91,7 @@ pub served-alike : (image : LoadedImage) (m : Action) (stores : List Entry) (d c
 unfolding word_read
 served-alike image m stores d c (Reads word way) p q h =
     ap (served image m stores) (word_of-hit d (word / 4) (word % 4) way (sym h.0)
-        ∙ ap (λ sh. Some (word_at (slots d (set_of sh (word / 4)) way) (word % 4))) h.2)
+    ∙ ap (λ sh. Some (word_at (slots d (set_of sh (word / 4)) way) (word % 4))) h.2)
     ∙ word-served image stores (slots d (set_of c.shape (word / 4)) way) (slots c (set_of c.shape (word / 4)) way) (word % 4)
     (λ o. slot_byte-below d (set_of c.shape (word / 4)) way o p) (λ o. slot_byte-below c (set_of c.shape (word / 4)) way o q) m h.3
     ∙ ap (served image m stores) (sym (word_of-hit c (word / 4) (word % 4) way (sym h.1)))
