@@ -1,12 +1,9 @@
 -- A load takes the bytes of its lanes alone: caches that agree on them serve it alike.
-use Rattle.std.proofs.Common.{◌≡◌, ◌⊎◌, inl, inr, ℕ, ◌+◌, ◌*◌, ◌/◌, ◌%◌, ◌^◌, ◌<◌, ◌≤◌, Bool, true, false, cond, List, length, lit<, refl, sym, ◌∙◌}
-use Rattle.std.proofs.Common.{ap, arith, subst}
-use Rattle.std.specs.Prelude.{⊤, Option, Some, None, ◌==◌, ◌&&◌, nat_lt, slice_index, if◌then◌else◌}
+use Rattle.std.proofs.Common.{◌≡◌, ℕ, ◌+◌, ◌*◌, ◌/◌, ◌%◌, ◌^◌, ◌<◌, Bool, true, false, List, refl, sym, ◌∙◌}
+use Rattle.std.proofs.Common.{ap, arith}
+use Rattle.std.specs.Prelude.{⊤, Option, Some, ◌==◌, if◌then◌else◌}
 use Rattle.std.specs.List.{All}
-use Rattle.std.proofs.Math.ListN.{get_or-eq_default}
-use Rattle.std.proofs.lemmas.Bool.{cases_lt}
 use Rattle.std.proofs.lemmas.Bool.Decides.{nat_tests}
-use Rattle.std.proofs.lemmas.List.Elements.{All-get_or}
 use Rattle.elf_load.specs.Image.{LoadedImage, word_in_ram}
 use Rattle.rv_table.specs.Accesses.{accesses, byte_of, lane_mask, load_size}
 use Rattle.rv_table.specs.declared.action.Action.{Action}
@@ -19,8 +16,8 @@ use Rattle.store_buf.specs.Covers.{covered}
 use Rattle.store_buf.specs.Entry.{Entry}
 use Rattle.store_buf.specs.declared.cover.Cover.{Cover}
 use Rattle.store_buf.specs.declared.cover.Cover.TheVariants.{Full, Part, None as Uncovered}
-use Rattle.wb_cache.specs.Access.{found, word_at, word_of}
-use Rattle.wb_cache.specs.Contents.{Contents, Slot, no_slot, slot_at, slot_of, slots}
+use Rattle.wb_cache.specs.Access.{found, word_at}
+use Rattle.wb_cache.specs.Contents.{Contents, Slot, slots}
 use Rattle.wb_cache.specs.Lookup.{set_of}
 use Rattle.wb_cache.proofs.Bytes.{slot_byte-below}
 use Rattle.wb_cache.proofs.Hits.{word_of-hit}

@@ -1,9 +1,8 @@
 -- The cycle from a state with a struck data bit of a clean line.
-use Rattle.std.proofs.Common.{◌≡◌, ◌≢◌, ℕ, ◌+◌, ◌*◌, ◌/◌, ◌%◌, ◌^◌, ◌<◌, Bool, true, false, List, length, get_or, refl, sym, ◌∙◌, ap, arith, subst}
-use Rattle.std.specs.Prelude.{⊤, Option, Some, None, ◌==◌, ◌&&◌, bit_xor, slice_index_or, slice_set, if◌then◌else◌}
+use Rattle.std.proofs.Common.{◌≡◌, ℕ, ◌+◌, ◌*◌, ◌/◌, ◌%◌, ◌^◌, ◌<◌, Bool, true, false, List, length, refl, sym, ◌∙◌, ap, arith, subst}
+use Rattle.std.specs.Prelude.{Option, ◌==◌, ◌&&◌, bit_xor, slice_index_or, slice_set, if◌then◌else◌}
 use Rattle.std.specs.List.{All}
 use Rattle.std.proofs.lemmas.Bool.{eqb-true, eq-eqb}
-use Rattle.std.proofs.lemmas.Bool.Decides.{nat_tests}
 use Rattle.std.proofs.lemmas.List.{get_or-set_same, set-get_or}
 use Rattle.std.proofs.lemmas.List.Elements.{All-set}
 use Rattle.bit_field.proofs.Bits.{flip_below}
@@ -12,14 +11,14 @@ use Rattle.bit_field.specs.Shapes.{slots as slot_count}
 use Rattle.elf_load.proofs.ByteLists.{index-below}
 use Rattle.store_buf.specs.Entry.{Entry}
 use Rattle.store_buf.specs.Pending.{pending}
-use Rattle.wb_cache.specs.Contents.{Contents, slot_at, slot_of, slots}
+use Rattle.wb_cache.specs.Contents.{Contents, slot_at, slot_of}
 use Rattle.wb_cache.specs.Lookup.{set_of}
 use Rattle.wb_cache.specs.Refill.{way_for}
 use Rattle.event_log.specs.Nexts.{told_by}
 use Rattle.event_log.specs.declared.next.Next.TheVariants.{Ends}
 use Rattle.wb_cache.specs.declared.event.EventKind.TheVariants.{Read, Write, Miss, Fill}
-use Rattle.cyc_machine.specs.Cycle.{action_in_m, cycle, cycled, event_by, event_in, lanes_of, move, served_m}
-use Rattle.cyc_machine.specs.EventsLaw.{Clean, Dirty, Held, IsHeld}
+use Rattle.cyc_machine.specs.Cycle.{action_in_m, cycle, cycled, event_by, lanes_of, move, served_m}
+use Rattle.cyc_machine.specs.EventsLaw.{Clean, Dirty, IsHeld}
 use Rattle.cyc_machine.specs.Memory.{cache_after, load_client, memory_after, served, store_client, word_read}
 use Rattle.cyc_machine.specs.Sizes.{IsSteady}
 use Rattle.cyc_machine.specs.State.{State}

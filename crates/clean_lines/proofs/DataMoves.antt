@@ -1,25 +1,23 @@
 -- A byte of a clean line slot is another one: what a move of the port makes of the cache, and that main memory is the same.
 use Rattle.std.proofs.Common.{◌≡◌, ◌≢◌, ◌⊎◌, inl, inr, ℕ, ◌+◌, ◌*◌, ◌/◌, ◌%◌, ◌<◌, ◌≤◌, Bool, true, false, cond, List, length, get_or, refl, sym, ◌∙◌}
-use Rattle.std.proofs.Common.{ap, arith, subst}
-use Rattle.std.proofs.Math.ListN.{length-set}
-use Rattle.std.specs.Prelude.{Some, ◌==◌, ◌&&◌, nat_lt, slice_index, slice_index_or, slice_range, slice_set}
+use Rattle.std.proofs.Common.{ap, arith}
+use Rattle.std.specs.Prelude.{Some, ◌&&◌, nat_lt, slice_index, slice_index_or, slice_set}
 use Rattle.std.specs.List.{replace_range}
 use Rattle.std.proofs.lemmas.Bool.{cases_eq, cases_lt}
 use Rattle.std.proofs.lemmas.Bool.Decides.{nat_tests}
-use Rattle.std.proofs.lemmas.List.{get_or-set_other, get_or-set_same, set-get_or}
+use Rattle.std.proofs.lemmas.List.{get_or-set_other}
 use Rattle.bit_field.specs.Lanes.{has_lane}
 use Rattle.bit_field.specs.Shapes.{slots as slot_count}
 use Rattle.elf_load.specs.Image.{LoadedImage, IsImage}
-use Rattle.wb_cache.specs.Access.{found, put, put_word, read, touched, written as written_word}
+use Rattle.wb_cache.specs.Access.{found, put, put_word, read, written as written_word}
 use Rattle.wb_cache.specs.Contents.{Contents, IsSized, no_slot, slot_at, slot_of, slots}
-use Rattle.wb_cache.specs.Lookup.{line_of, set_of, tag_of}
+use Rattle.wb_cache.specs.Lookup.{line_of, set_of}
 use Rattle.wb_cache.specs.Refill.{filled, line_bytes, memory_refilled, put_line, refilled, way_for, written_back}
 use Rattle.wb_cache.proofs.Calls.{length-after_refill}
 use Rattle.wb_cache.proofs.Hits.{read-hit, written-hit}
-use Rattle.wb_cache.proofs.Lengths.{length-put_word, length-replace}
 use Rattle.wb_cache.proofs.Ram.{length-line_bytes}
 use Rattle.wb_cache.proofs.Sizes.{set_below, slot_below}
-use Rattle.wb_cache.proofs.Victims.{victim-below, way_of-below}
+use Rattle.wb_cache.proofs.Victims.{victim-below}
 use Rattle.clean_lines.proofs.Lists.{put_word-off, put_word-on, range-off, replace-off, replace-on}
 use Rattle.clean_lines.proofs.OtherBytes.{found-other, way_for-other}
 

@@ -1,11 +1,11 @@
 -- A cache with another tag in one slot: valid and dirty bits, bytes and the way that makes place are the same, and a line is found alike
 -- that neither tag names.
-use Rattle.std.proofs.Common.{◌≡◌, ◌≢◌, ◌⊎◌, inl, inr, ℕ, ◌+◌, ◌*◌, ◌/◌, ◌%◌, ◌<◌, Bool, true, false, cond, List, length, get_or, refl, sym, ◌∙◌, ap, arith}
-use Rattle.std.specs.Prelude.{Option, Some, None, ◌==◌, ◌&&◌, nat_lt, not, slice_index, slice_set}
-use Rattle.std.proofs.lemmas.Bool.{cases_eq, eqb-true}
+use Rattle.std.proofs.Common.{◌≡◌, ◌≢◌, ◌⊎◌, inl, inr, ℕ, ◌+◌, ◌*◌, ◌/◌, ◌<◌, Bool, true, false, cond, get_or, refl, sym, ◌∙◌, ap, arith}
+use Rattle.std.specs.Prelude.{Option, Some, ◌==◌, ◌&&◌, nat_lt, not, slice_set}
+use Rattle.std.proofs.lemmas.Bool.{cases_eq}
 use Rattle.std.proofs.lemmas.Bool.Decides.{nat_tests}
 use Rattle.std.proofs.lemmas.List.{get_or-set_other, get_or-set_same}
-use Rattle.bit_field.specs.Shapes.{IsShape, slots as slot_count}
+use Rattle.bit_field.specs.Shapes.{slots as slot_count}
 use Rattle.wb_cache.specs.Access.{found}
 use Rattle.wb_cache.specs.Changes.{set_at}
 use Rattle.wb_cache.specs.Contents.{Contents, IsSized, Slot, no_slot, slot_at, slot_of, slots}

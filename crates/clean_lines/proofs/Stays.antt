@@ -1,20 +1,18 @@
 -- What a line slot that is clean holds after a cycle, by the cycle's event.
-use Rattle.std.proofs.Common.{◌≡◌, ℕ, ◌/◌, ◌<◌, Bool, true, false, refl, sym, ◌∙◌, ap, subst}
-use Rattle.std.specs.Prelude.{[], Option, Some, None, ◌==◌, if◌then◌else◌}
+use Rattle.std.proofs.Common.{◌≡◌, ℕ, ◌<◌, refl, subst}
+use Rattle.std.specs.Prelude.{[], Option, Some, None}
 use Rattle.bit_field.specs.Shapes.{slots as slot_count}
 use Rattle.wb_cache.specs.Changes.{set_at}
-use Rattle.wb_cache.specs.Contents.{Contents, slot_at, slot_of}
+use Rattle.wb_cache.specs.Contents.{Contents, slot_at}
 use Rattle.wb_cache.specs.Lookup.{line_of}
 use Rattle.wb_cache.specs.declared.event.CacheEvent.{CacheEvent}
-use Rattle.wb_cache.specs.declared.event.EventKind.{EventKind}
-use Rattle.wb_cache.specs.declared.event.EventKind.TheVariants.{Read, Write, Miss, Fill}
 use Rattle.cyc_machine.specs.Cycle.{cycle, event_in}
-use Rattle.cyc_machine.specs.EventsLaw.{Clean, Dirty, Held, IsHeld, held_after, held_behind, held_by}
+use Rattle.cyc_machine.specs.EventsLaw.{Clean, Held, IsHeld, held_after, held_behind}
 use Rattle.cyc_machine.specs.Run.{events_after, state_after, with_one}
 use Rattle.cyc_machine.specs.Sizes.{IsSteady}
 use Rattle.cyc_machine.specs.State.{State}
 use Rattle.cyc_machine.proofs.HeldSlots.{held-on}
-use Rattle.clean_lines.specs.Struck.{IsCleanSlot, IsDirtySlot}
+use Rattle.clean_lines.specs.Struck.{IsCleanSlot}
 
 -- the line of slot l
 abbrev pub line_at : Contents → ℕ → ℕ

@@ -1,25 +1,23 @@
 -- The cycle from a state with a struck tag bit of a clean line.
-use Rattle.std.proofs.Common.{◌≡◌, ◌≢◌, ℕ, ◌+◌, ◌*◌, ◌/◌, ◌%◌, ◌^◌, ◌<◌, Bool, true, false, List, length, get_or, refl, sym, ◌∙◌, ap, arith, subst}
-use Rattle.std.specs.Prelude.{⊤, Option, Some, None, ◌==◌, ◌&&◌, bit_xor, slice_index, slice_index_or, slice_set, if◌then◌else◌}
+use Rattle.std.proofs.Common.{◌≡◌, ◌≢◌, ℕ, ◌+◌, ◌*◌, ◌/◌, ◌%◌, ◌^◌, ◌<◌, Bool, true, false, List, refl, sym, ◌∙◌, ap, subst}
+use Rattle.std.specs.Prelude.{Option, Some, None, ◌==◌, ◌&&◌, bit_xor, slice_index, slice_index_or, slice_set, if◌then◌else◌}
 use Rattle.std.proofs.lemmas.Bool.{eqb-true, eq-eqb}
 use Rattle.bit_field.specs.Shapes.{slots as slot_count, tag_bits}
 use Rattle.bit_field.specs.declared.shapes.Shape.{Shape}
 use Rattle.store_buf.specs.Entry.{Entry}
 use Rattle.store_buf.specs.Pending.{pending}
-use Rattle.wb_cache.specs.Access.{found}
 use Rattle.wb_cache.specs.Bits.{flip_tag}
 use Rattle.wb_cache.specs.Changes.{set_at}
-use Rattle.wb_cache.specs.Contents.{Contents, slot_at, slot_of, slots}
-use Rattle.wb_cache.specs.Lookup.{line_of, set_of, tag_of}
+use Rattle.wb_cache.specs.Contents.{Contents, slot_at, slot_of}
+use Rattle.wb_cache.specs.Lookup.{line_of, set_of}
 use Rattle.wb_cache.specs.Refill.{way_for}
 use Rattle.wb_cache.specs.declared.event.CacheEvent.{CacheEvent}
 use Rattle.wb_cache.proofs.Lines.{set_of_line, tag_of_line}
 use Rattle.wb_cache.proofs.Sizes.{slot-split, tag_slot as tag_slot_below}
-use Rattle.event_log.specs.Lookups.{is_fill}
 use Rattle.cyc_machine.specs.Busy.{WorksForMiss}
 use Rattle.cyc_machine.specs.Cycle.{action_in_m, cycle, cycled, event_by, event_in, move, served_m}
-use Rattle.cyc_machine.specs.EventsLaw.{Clean, Dirty, Held, IsHeld}
-use Rattle.cyc_machine.specs.Memory.{cache_after, load_client, memory_after, owned_word, served, store_client, word_read}
+use Rattle.cyc_machine.specs.EventsLaw.{Clean, Dirty, IsHeld}
+use Rattle.cyc_machine.specs.Memory.{cache_after, load_client, memory_after, served, store_client, word_read}
 use Rattle.cyc_machine.specs.Sizes.{IsSteady}
 use Rattle.cyc_machine.specs.State.{State}
 use Rattle.cyc_machine.specs.declared.port.Move.{Move}

@@ -1,6 +1,5 @@
 -- The tag of a clean line slot is another one: the line that decides what the port does is found alike, and what a move makes of the cache.
-use Rattle.std.proofs.Common.{◌≡◌, ◌≢◌, ◌⊎◌, inl, inr, ℕ, ◌+◌, ◌*◌, ◌/◌, ◌%◌, ◌<◌, Bool, true, false, cond, List, length, get_or, refl, sym, ◌∙◌, ap}
-use Rattle.std.proofs.Common.{arith, subst}
+use Rattle.std.proofs.Common.{◌≡◌, ◌≢◌, ◌⊎◌, inl, inr, ℕ, ◌+◌, ◌*◌, ◌/◌, ◌<◌, Bool, true, false, cond, List, refl, sym, ◌∙◌, ap}
 use Rattle.std.specs.Prelude.{⊤, Option, Some, None, ◌==◌, ◌&&◌, nat_lt, slice_index, slice_index_or, slice_range, slice_set, if◌then◌else◌}
 use Rattle.std.proofs.lemmas.Bool.{cases_eq, eq-eqb}
 use Rattle.std.proofs.lemmas.List.{get_or-set_other, set-set, set_comm}
@@ -10,9 +9,9 @@ use Rattle.rv_table.specs.declared.action.Action.{Action}
 use Rattle.store_buf.specs.Entry.{Entry}
 use Rattle.wb_cache.specs.Access.{found, put, read, written as written_word}
 use Rattle.wb_cache.specs.Changes.{set_at}
-use Rattle.wb_cache.specs.Contents.{Contents, IsSized, slot_at, slot_of, slots}
+use Rattle.wb_cache.specs.Contents.{Contents, IsSized, slot_at, slot_of}
 use Rattle.wb_cache.specs.Lookup.{line_of, set_of, tag_of}
-use Rattle.wb_cache.specs.Refill.{filled, line_bytes, memory_refilled, put_line, refilled, way_for, written_back}
+use Rattle.wb_cache.specs.Refill.{filled, memory_refilled, put_line, refilled, way_for, written_back}
 use Rattle.wb_cache.specs.declared.event.CacheEvent.{CacheEvent}
 use Rattle.wb_cache.proofs.Hits.{read-hit, written-hit}
 use Rattle.cyc_machine.specs.Cycle.{event_by}

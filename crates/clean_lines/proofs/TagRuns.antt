@@ -1,7 +1,7 @@
 -- Many cycles from a state with a struck tag bit of a clean line, as long as no event is of the two lines that the tag is taken for.
 use Rattle.std.proofs.Common.{◌≡◌, ◌≢◌, ◌≤◌, ℕ, zero, suc, ◌+◌, ◌*◌, ◌/◌, ◌%◌, ◌<◌, Bool, true, false, cond, List, [], ◌∷◌, ◌++◌, refl, sym, ◌∙◌, ap}
 use Rattle.std.proofs.Common.{arith, subst}
-use Rattle.std.specs.Prelude.{⊤, Option, Some, None, ◌==◌, ◌&&◌, nat_le}
+use Rattle.std.specs.Prelude.{Option, Some, None, ◌==◌, ◌&&◌, nat_le}
 use Rattle.std.specs.List.{All}
 use Rattle.std.specs.Option.{IfSome}
 use Rattle.std.proofs.lemmas.Bool.{eq-eqb}
@@ -20,8 +20,8 @@ use Rattle.cyc_machine.specs.State.{State}
 use Rattle.cyc_machine.proofs.Events.{event-law, events-law}
 use Rattle.cyc_machine.proofs.RunsOn.{numbered, shape-kept}
 use Rattle.cyc_machine.proofs.Sizes.Lasting.{steady-after}
-use Rattle.clean_lines.specs.CleanCycle.{IsApart, SameCycle, TagCycle, TagCycleBy, fills_in}
-use Rattle.clean_lines.specs.CleanRun.{IsInStep, IsSettled, SameCycles, TagRun, TagRunBy}
+use Rattle.clean_lines.specs.CleanCycle.{IsApart, SameCycle, TagCycleBy, fills_in}
+use Rattle.clean_lines.specs.CleanRun.{IsSettled, TagRunBy}
 use Rattle.clean_lines.specs.Struck.{IsCleanSlot, near_line, tag_line, tag_slot, tag_struck}
 use Rattle.clean_lines.proofs.DataRuns.{same-more, settled-more}
 use Rattle.clean_lines.proofs.TagCycles.{tag-cycle}
