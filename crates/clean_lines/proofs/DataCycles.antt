@@ -131,8 +131,10 @@ module _ (s : State) (k : ℕ) (is : IsSteady s) (below : k < slot_count s.cache
 
   -- what a move must leave as it was for the byte to go on alone
   record Keeps (v : Move) : Type 0 where
-    cache : (y : ℕ) → cache_after s.image v s.memory (with_byte c l byte y) ≡ record (cache_after s.image v s.memory c) { bytes =
-        slice_set (cache_after s.image v s.memory c).bytes (16 * l + byte) y }
+    cache : (y : ℕ) → cache_after s.image v s.memory (with_byte c l byte y) ≡ record (cache_after s.image v s.memory c) {
+      bytes =
+          slice_set (cache_after s.image v s.memory c).bytes (16 * l + byte) y;
+    }
     memory : memory_after s.image v d s.memory ≡ memory_after s.image v c s.memory
     reads : ReadsAlike d c (action_in_m s) v
 
@@ -156,10 +158,10 @@ module _ (s : State) (k : ℕ) (is : IsSteady s) (below : k < slot_count s.cache
   unfolding cycled
   next-byte h =
       let e : (cycle s).cache.bytes ≡ slice_set (cycle s).cache.bytes (16 * l + byte) (slice_index_or c.bytes (16 * l + byte) 0) =
-          ap (λ (bs : List ℕ). (cache_after s.image (move s) s.memory (record c { bytes = bs })).bytes) (sym (set-get_or c.bytes (16 * l + byte) 0))
-          ∙ ap (λ (a : Contents). a.bytes) (h.cache (slice_index_or c.bytes (16 * l + byte) 0)) in
+      ap (λ (bs : List ℕ). (cache_after s.image (move s) s.memory (record c { bytes = bs })).bytes) (sym (set-get_or c.bytes (16 * l + byte) 0))
+      ∙ ap (λ (a : Contents). a.bytes) (h.cache (slice_index_or c.bytes (16 * l + byte) 0)) in
       rw place (ap (λ (bs : List ℕ). slice_index_or bs (16 * l + byte) 0) e
-          ∙ get_or-set_same (cycle s).cache.bytes (16 * l + byte) (slice_index_or c.bytes (16 * l + byte) 0) 0 next-long)
+      ∙ get_or-set_same (cycle s).cache.bytes (16 * l + byte) (slice_index_or c.bytes (16 * l + byte) 0) 0 next-long)
 
   kept : Keeps (move s) → cycle (data_struck k s) ≡ data_struck k (cycle s)
   unfolding cycled
@@ -167,8 +169,11 @@ module _ (s : State) (k : ℕ) (is : IsSteady s) (below : k < slot_count s.cache
       ap (λ (u : State). cycle u) struck-is
       ∙ cycle-other s d moves (serves h.reads)
       ∙ ap (λ (a : Contents). record (cycle s) { cache = a; memory = memory_after s.image (move s) d s.memory }) (h.cache x)
-      ∙ ap (λ (m : List ℕ). record (cycle s) { cache = record (cycle s).cache { bytes = slice_set (cycle s).cache.bytes (16 * l + byte) x }; memory =
-          m }) h.memory
+      ∙ ap (λ (m : List ℕ). record (cycle s) {
+        cache = record (cycle s).cache { bytes = slice_set (cycle s).cache.bytes (16 * l + byte) x };
+        memory =
+            m;
+      }) h.memory
       ∙ ap (λ i. record (cycle s) { cache = record (cycle s).cache { bytes = slice_set (cycle s).cache.bytes i x } }) (sym place)
       ∙ ap (λ v. record (cycle s) { cache = record (cycle s).cache { bytes = slice_set (cycle s).cache.bytes (k / 8) (flipped v) } }) (sym (next-byte h))
 
@@ -202,8 +207,16 @@ module _ (s : State) (k : ℕ) (is : IsSteady s) (below : k < slot_count s.cache
 
   still : Keeps Rests × Keeps Waits × Keeps Leaves
   unfolding cache_after memory_after
-  still = (record { cache = λ y. refl; memory = refl; reads = tt }, record { cache = λ y. refl; memory = refl; reads = tt }, record { cache =
-      λ y. refl; memory = refl; reads = tt })
+  still = (
+    record { cache = λ y. refl; memory = refl; reads = tt },
+    record { cache = λ y. refl; memory = refl; reads = tt },
+    record {
+      cache =
+          λ y. refl;
+      memory = refl;
+      reads = tt;
+    },
+  )
 
   missed : (m way count : ℕ) (owner : Bool) → Keeps (Misses m way count owner)
   unfolding cache_after memory_after
@@ -219,10 +232,15 @@ module _ (s : State) (k : ℕ) (is : IsSteady s) (below : k < slot_count s.cache
       keeps off = unfold cache_after in unfold memory_after in record {
         cache = λ y. read-kept s.image s.memory c l byte y is.image is.memory is.cache slot-below (omega arith) not-dirty (word / 4) way t.1;
         memory = refl;
-        reads = (found-other c (slice_set c.bytes (16 * l + byte) x) (word / 4) ∙ t.1, t.1, refl,
+        reads = (
+          found-other c (slice_set c.bytes (16 * l + byte) x) (word / 4) ∙ t.1,
+          t.1,
+          refl,
           λ lane m on. byte-off c l byte x (set_of c.shape (word / 4)) way (4 * (word % 4) + lane) (omega arith)
-          (λ p q. off-lanes (slot_of c.shape (set_of c.shape (word / 4)) way) l (word % 4) byte (lanes_of (action_in_m s)) lane off m on p q));
+              (λ p q. off-lanes (slot_of c.shape (set_of c.shape (word / 4)) way) l (word % 4) byte (lanes_of (action_in_m s)) lane off m on p q),
+        );
       }
+
       go : (a h : Bool)
           → (slot_of c.shape (set_of c.shape (word / 4)) way == l && (word % 4 == byte / 4 && has_lane (lanes_of (action_in_m s)) (byte % 4))) ≡ (a && h)
           → IsHeld (cycle s).cache l (if a then Clean (line_at c l) else Clean (line_at c l))
@@ -247,6 +265,7 @@ module _ (s : State) (k : ℕ) (is : IsSteady s) (below : k < slot_count s.cache
     where
       slot : ℕ
       slot = slot_of c.shape (set_of c.shape (w.addr / 4)) way
+
       keeps : (slot ≡ l → w.addr % 4 ≡ byte / 4 → has_lane w.mask (byte % 4) ≡ true → ⊥) → Keeps (Drains w way)
       keeps off = unfold cache_after in unfold memory_after in record {
         cache = λ y. written-kept s.image s.memory c l byte y is.image is.memory is.cache slot-below (omega arith) not-dirty (w.addr / 4)
@@ -254,6 +273,7 @@ module _ (s : State) (k : ℕ) (is : IsSteady s) (below : k < slot_count s.cache
         memory = refl;
         reads = tt;
       }
+
       settles : slot ≡ l → w.addr % 4 ≡ byte / 4 → has_lane w.mask (byte % 4) ≡ true → Settles (Drains w way)
       settles p q r = unfold cache_after in unfold memory_after in record {
         cache = written-gone s.image s.memory c l byte x is.image is.memory is.cache slot-below (omega arith) not-dirty (w.addr / 4)
@@ -261,6 +281,7 @@ module _ (s : State) (k : ℕ) (is : IsSteady s) (below : k < slot_count s.cache
         memory = refl;
         reads = tt;
       }
+
       go : (a h : Bool) → (slot == l) ≡ a → (w.addr % 4 == byte / 4 && has_lane w.mask (byte % 4)) ≡ h
           → IsHeld (cycle s).cache l (if a then Dirty (w.addr / 4) else Clean (line_at c l))
           → DataCycleBy s k (if a && true then told_by Write h s.cycle else Ends)
@@ -278,24 +299,27 @@ module _ (s : State) (k : ℕ) (is : IsSteady s) (below : k < slot_count s.cache
     where
       at : slot_of c.shape (set_of c.shape m) way ≡ slot_of c.shape (set_of c.shape m) (way_for c m)
       at = ap (slot_of c.shape (set_of c.shape m)) t.1
+
       keeps : (slot_of c.shape (set_of c.shape m) (way_for c m) ≡ l → ⊥) → Keeps (Fills m way)
       keeps off = unfold cache_after in unfold memory_after in record {
         cache = λ y. refilled-kept s.image s.memory c l byte y is.image is.memory is.cache slot-below (omega arith) not-dirty m off;
         memory = memory-kept s.image s.memory c l byte x is.image is.memory is.cache slot-below (omega arith) not-dirty m;
         reads = tt;
       }
+
       settles : slot_of c.shape (set_of c.shape m) (way_for c m) ≡ l → Settles (Fills m way)
       settles p = unfold cache_after in unfold memory_after in record {
         cache = refilled-gone s.image s.memory c l byte x is.image is.memory is.cache slot-below (omega arith) not-dirty m p;
         memory = memory-kept s.image s.memory c l byte x is.image is.memory is.cache slot-below (omega arith) not-dirty m;
         reads = tt;
       }
+
       go : (a : Bool) → (slot_of c.shape (set_of c.shape m) way == l) ≡ a → IsHeld (cycle s).cache l (if a then Clean m else Clean (line_at c l))
           → DataCycleBy s k (if a && true then told_by Fill (0 == byte / 4 && has_lane 0 (byte % 4)) s.cycle else Ends)
       go true p g = ends (Fills m way) e (settles (sym at ∙ eqb-true (slot_of c.shape (set_of c.shape m) way) l p))
       go false p g =
           in-step (Fills m way) e (keeps (λ q. other-slot (slot_of c.shape (set_of c.shape m) way) l p (at ∙ q)))
-              (clean-held (cycle s).cache l (line_at c l) g)
+          (clean-held (cycle s).cache l (line_at c l) g)
 
   by-move : (v : Move) → move s ≡ v → Tells c load store v → Told v
   by-move Rests e t = in-step Rests e still.0 (clean-held (cycle s).cache l (line_at c l) (held Rests e))

@@ -37,6 +37,7 @@ byte-off c l byte x set way o h off = go (nat_lt set c.shape.sets && nat_lt way 
     inner true e = get_or-set_other c.bytes (16 * l + byte) (16 * slot_of c.shape set way + o) x 0
         (λ same. let m : o < 16 = grind (arith, nat_tests) in off (omega arith) (omega arith))
     inner false e = refl
+
     go : (b : Bool)
         → (cond b (slot_at (with_byte c l byte x) (slot_of c.shape set way)) no_slot).bytes o ≡ (cond b (slot_at c (slot_of c.shape set way)) no_slot).bytes o
     go true = unfold slot_at in inner (nat_lt o 16) refl
@@ -63,8 +64,10 @@ module _ (image : LoadedImage) (memory : List ℕ) (c : Contents) (l byte x : �
   -- a write that doesn't write the byte
   pub written-kept : (line word mask value way : ℕ) → found c line ≡ Some way → word < 4
       → (slot_of c.shape (set_of c.shape line) way ≡ l → word ≡ byte / 4 → has_lane mask (byte % 4) ≡ true → ⊥)
-      → written_word line word mask value d ≡ record (written_word line word mask value c) { bytes =
-          slice_set (written_word line word mask value c).bytes j x }
+      → written_word line word mask value d ≡ record (written_word line word mask value c) {
+        bytes =
+            slice_set (written_word line word mask value c).bytes j x;
+      }
   unfolding put
   written-kept line word mask value way h w off =
       written-hit d line word mask value way (sym (found-other c (slice_set c.bytes j x) line ∙ h))
@@ -95,14 +98,14 @@ module _ (image : LoadedImage) (memory : List ℕ) (c : Contents) (l byte x : �
       go (inl e) =
           let none : slice_index_or c.dirty (slot_of c.shape set way) false ≡ false = ap (λ i. slice_index_or c.dirty i false) e ∙ clean in
           unfold written_back in (not_back (slice_index_or c.valid (slot_of c.shape set way) false)
-              (slice_index_or c.dirty (slot_of c.shape set way) false) _ memory none
+          (slice_index_or c.dirty (slot_of c.shape set way) false) _ memory none
           ∙ sym (not_back (slice_index_or c.valid (slot_of c.shape set way) false) (slice_index_or c.dirty (slot_of c.shape set way) false) _ memory none))
       go (inr ne) =
           unfold written_back in ap (λ (bs : List ℕ). cond
-              (slice_index_or c.valid (slot_of c.shape set way) false && slice_index_or c.dirty (slot_of c.shape set way) false)
+          (slice_index_or c.valid (slot_of c.shape set way) false && slice_index_or c.dirty (slot_of c.shape set way) false)
           (put_line image (line_of c.shape set (slice_index c.tags (slot_of c.shape set way))) bs memory) memory)
           (range-off c.bytes (16 * slot_of c.shape set way) (16 * slot_of c.shape set way + 16) j x
-              (elim (cases_lt (slot_of c.shape set way) l) [ inl m ↦ inr (omega arith) | inr m ↦ inl (omega arith) ]))
+          (elim (cases_lt (slot_of c.shape set way) l) [ inl m ↦ inr (omega arith) | inr m ↦ inl (omega arith) ]))
 
   pub memory-kept : (line : ℕ) → memory_refilled image line d memory ≡ memory_refilled image line c memory
   unfolding memory_refilled
@@ -130,7 +133,7 @@ module _ (image : LoadedImage) (memory : List ℕ) (c : Contents) (l byte x : �
   start-below : (line : ℕ) → start line + 16 ≤ length c.bytes
   start-below line =
       let b = slot_below c.shape (set_of c.shape line) (way_for c line) sized.shape (set_below c.shape line sized.shape)
-          (victim-below c.shape (slots c) c.nodes (set_of c.shape line) sized.shape) in
+      (victim-below c.shape (slots c) c.nodes (set_of c.shape line) sized.shape) in
       omega (arith, b, sized.bytes)
 
   pub refilled-kept : (line : ℕ) → (slot_of c.shape (set_of c.shape line) (way_for c line) ≡ l → ⊥)
@@ -138,7 +141,7 @@ module _ (image : LoadedImage) (memory : List ℕ) (c : Contents) (l byte x : �
   refilled-kept line ne =
       refilled-by line (λ bs. slice_set bs j x)
       (replace-off c.bytes (line_bytes image line (memory_refilled image line c memory)) (start line) (start line + 16) j x
-          (omega (arith, long-line line)) (start-below line)
+      (omega (arith, long-line line)) (start-below line)
       (elim (cases_lt (slot_of c.shape (set_of c.shape line) (way_for c line)) l) [ inl m ↦ inr (omega arith) | inr m ↦ inl (omega arith) ]))
 
   pub refilled-gone : (line : ℕ) → slot_of c.shape (set_of c.shape line) (way_for c line) ≡ l → refilled image line memory d ≡ refilled image line memory c

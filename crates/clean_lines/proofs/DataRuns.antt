@@ -119,7 +119,7 @@ module _ (s : State) (k : ℕ) where
         let at : e.cycle ≡ s.cycle + n = number n e h in
         let from : nat_le s.cycle e.cycle ≡ true = grind (arith, nat_tests) in
         rw from (go (concerns s.cache.shape l byte e) refl
-            (subst (λ o. DataCycleBy (state_after n s) k (told_in s.cache.shape l byte o)) h (one-cycle n run.1)))
+        (subst (λ o. DataCycleBy (state_after n s) k (told_in s.cache.shape l byte o)) h (one-cycle n run.1)))
       where
         go : (b : Bool) → concerns s.cache.shape l byte e ≡ b
             → DataCycleBy (state_after n s) k (if b then told_by e.kind (holds_byte byte e) e.cycle else Ends)

@@ -37,7 +37,7 @@ put_word-off place mask value bytes j v off =
     let put1 = put_lane place mask value 1 put0 in
     let put2 = put_lane place mask value 2 put1 in
     ap (λ (xs : List ℕ). put_lane place mask value 3 (put_lane place mask value 2 (put_lane place mask value 1 xs)))
-        (put_lane-off place mask value 0 bytes j v (off 0 (omega arith)))
+    (put_lane-off place mask value 0 bytes j v (off 0 (omega arith)))
     ∙ ap (λ (xs : List ℕ). put_lane place mask value 3 (put_lane place mask value 2 xs)) (put_lane-off place mask value 1 put0 j v (off 1 (omega arith)))
     ∙ ap (λ (xs : List ℕ). put_lane place mask value 3 xs) (put_lane-off place mask value 2 put1 j v (off 2 (omega arith)))
     ∙ put_lane-off place mask value 3 put2 j v (off 3 (omega arith))
@@ -48,26 +48,26 @@ pub put_word-on : (place mask value lane : ℕ) (bytes : List ℕ) (v : ℕ) →
 unfolding put_word
 put_word-on place mask value zero bytes v l on =
     ap (λ (xs : List ℕ). put_lane place mask value 3 (put_lane place mask value 2 (put_lane place mask value 1 xs)))
-        (put_lane-on place mask value 0 bytes v on)
+    (put_lane-on place mask value 0 bytes v on)
 put_word-on place mask value (suc zero) bytes v l on =
     ap (λ (xs : List ℕ). put_lane place mask value 3 (put_lane place mask value 2 (put_lane place mask value 1 xs)))
-        (put_lane-off place mask value 0 bytes (place + 1) v (λ h. omega arith))
+    (put_lane-off place mask value 0 bytes (place + 1) v (λ h. omega arith))
     ∙ ap (λ (xs : List ℕ). put_lane place mask value 3 (put_lane place mask value 2 xs))
-        (put_lane-on place mask value 1 (put_lane place mask value 0 bytes) v on)
+    (put_lane-on place mask value 1 (put_lane place mask value 0 bytes) v on)
 put_word-on place mask value (suc (suc zero)) bytes v l on =
     let put0 = put_lane place mask value 0 bytes in
     ap (λ (xs : List ℕ). put_lane place mask value 3 (put_lane place mask value 2 (put_lane place mask value 1 xs)))
-        (put_lane-off place mask value 0 bytes (place + 2) v (λ h. omega arith))
+    (put_lane-off place mask value 0 bytes (place + 2) v (λ h. omega arith))
     ∙ ap (λ (xs : List ℕ). put_lane place mask value 3 (put_lane place mask value 2 xs))
-        (put_lane-off place mask value 1 put0 (place + 2) v (λ h. omega arith))
+    (put_lane-off place mask value 1 put0 (place + 2) v (λ h. omega arith))
     ∙ ap (λ (xs : List ℕ). put_lane place mask value 3 xs) (put_lane-on place mask value 2 (put_lane place mask value 1 put0) v on)
 put_word-on place mask value (suc (suc (suc zero))) bytes v l on =
     let put0 = put_lane place mask value 0 bytes in
     let put1 = put_lane place mask value 1 put0 in
     ap (λ (xs : List ℕ). put_lane place mask value 3 (put_lane place mask value 2 (put_lane place mask value 1 xs)))
-        (put_lane-off place mask value 0 bytes (place + 3) v (λ h. omega arith))
+    (put_lane-off place mask value 0 bytes (place + 3) v (λ h. omega arith))
     ∙ ap (λ (xs : List ℕ). put_lane place mask value 3 (put_lane place mask value 2 xs))
-        (put_lane-off place mask value 1 put0 (place + 3) v (λ h. omega arith))
+    (put_lane-off place mask value 1 put0 (place + 3) v (λ h. omega arith))
     ∙ ap (λ (xs : List ℕ). put_lane place mask value 3 xs) (put_lane-off place mask value 2 put1 (place + 3) v (λ h. omega arith))
     ∙ put_lane-on place mask value 3 (put_lane place mask value 2 put1) v on
 put_word-on place mask value (suc (suc (suc (suc n)))) bytes v l on = absurd (omega arith)
@@ -84,6 +84,7 @@ range-off xs a b j v (inr h) = go (cases a j)
   where
     cases : (m n : ℕ) → (m ≤ n) ⊎ (n < m)
     cases m n = grind arith
+
     go : (a ≤ j) ⊎ (j < a) → slice_range (set xs j v) a b ≡ slice_range xs a b
     go (inl m) = ap (take (b - a)) (drop-behind xs a j v m) ∙ take-set-le (b - a) (drop a xs) (j - a) v (omega arith)
     go (inr m) = ap (take (b - a)) (drop-set-lt a xs j v m)

@@ -49,7 +49,7 @@ module _ (c : Contents) (bs : List ℕ) where
   unfolding victim first_invalid
   way_for-other line =
       ap (λ (o : Option ℕ). way_or o (replaced c.shape c.nodes (set_of c.shape line)))
-          (first_below-same c.shape.ways _ _ (λ w l. ap not (valid-other (set_of c.shape line) w)))
+      (first_below-same c.shape.ways _ _ (λ w l. ap not (valid-other (set_of c.shape line) w)))
 
   dirty_victim-other : (line : ℕ) → is_dirty_victim d line ≡ is_dirty_victim c line
   dirty_victim-other line =

@@ -83,8 +83,10 @@ module _ (s : State) (k : ℕ) (is : IsSteady s) (busy : s.port.count ≢ 0 → 
   -- the line that the struck slot seems to hold
   near-is : near_line c k ≡ line_of c.shape (set_at c.shape l) tag
   unfolding slot_at
-  near-is = rw (set_of_line c.shape.sets (set_at c.shape l) (slice_index c.tags l) set-below,
-      tag_of_line c.shape.sets (set_at c.shape l) (slice_index c.tags l) set-below) refl
+  near-is = rw (
+    set_of_line c.shape.sets (set_at c.shape l) (slice_index c.tags l) set-below,
+    tag_of_line c.shape.sets (set_at c.shape l) (slice_index c.tags l) set-below,
+  ) refl
 
   apart-by : (o : Option CacheEvent) → IsApart s k o → Apart (line_of c.shape (set_at c.shape l) (slot_at c l).tag) (line_of c.shape (set_at c.shape l) tag) o
   apart-by None h = tt
@@ -94,7 +96,7 @@ module _ (s : State) (k : ℕ) (is : IsSteady s) (busy : s.port.count ≢ 0 → 
   moves =
       move-same d c (ways-tags c l tag is.cache slot-below) (dirties-tags c l tag is.cache slot-below) s.port load store
       (agree-asked c l tag is.cache slot-below (action_in_m s) s.cycle s.port load store (λ h. let b =
-          busy h in (b.word, b.client, b.missing)) (apart-by (event_in s) apart))
+      busy h in (b.word, b.client, b.missing)) (apart-by (event_in s) apart))
 
   told : Tells c load store (move s)
   told = tells s.port c load store
@@ -185,8 +187,16 @@ module _ (s : State) (k : ℕ) (is : IsSteady s) (busy : s.port.count ≢ 0 → 
 
   still : Keeps Rests × Keeps Waits × Keeps Leaves
   unfolding cache_after memory_after
-  still = (record { cache = refl; memory = refl; tag = refl }, record { cache = refl; memory = refl; tag = refl }, record { cache = refl; memory =
-      refl; tag = refl })
+  still = (
+    record { cache = refl; memory = refl; tag = refl },
+    record { cache = refl; memory = refl; tag = refl },
+    record {
+      cache = refl;
+      memory =
+          refl;
+      tag = refl;
+    },
+  )
 
   missed : (m way count : ℕ) (owner : Bool) → Keeps (Misses m way count owner)
   unfolding cache_after memory_after
@@ -241,6 +251,7 @@ module _ (s : State) (k : ℕ) (is : IsSteady s) (busy : s.port.count ≢ 0 → 
     where
       at : slot_of c.shape (set_of c.shape m) way ≡ slot_of c.shape (set_of c.shape m) (way_for c m)
       at = ap (slot_of c.shape (set_of c.shape m)) t.1
+
       go : (a : Bool) → (slot_of c.shape (set_of c.shape m) way == l) ≡ a → IsHeld (cycle s).cache l (if a then Clean m else Clean (line_at c l))
           → TagCycleBy s k (a && true)
       go true p g = ends (Fills m way) e (settles-fill m way (sym at ∙ eqb-true (slot_of c.shape (set_of c.shape m) way) l p))

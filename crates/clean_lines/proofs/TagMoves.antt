@@ -124,11 +124,11 @@ module _ (c : Contents) (l tag : ℕ) (sized : IsSized c) (below : l < slot_coun
         go (inl e) =
             let none : slice_index_or c.dirty (slot_of c.shape set way) false ≡ false = ap (λ i. slice_index_or c.dirty i false) e ∙ clean in
             unfold written_back in (not_back (slice_index_or c.valid (slot_of c.shape set way) false)
-                (slice_index_or c.dirty (slot_of c.shape set way) false) _ memory none
+            (slice_index_or c.dirty (slot_of c.shape set way) false) _ memory none
             ∙ sym (not_back (slice_index_or c.valid (slot_of c.shape set way) false) (slice_index_or c.dirty (slot_of c.shape set way) false) _ memory none))
         go (inr ne) =
             unfold written_back in ap (λ t. cond
-                (slice_index_or c.valid (slot_of c.shape set way) false && slice_index_or c.dirty (slot_of c.shape set way) false)
+            (slice_index_or c.valid (slot_of c.shape set way) false && slice_index_or c.dirty (slot_of c.shape set way) false)
             (put_line image (line_of c.shape set t) (slice_range c.bytes (16 * slot_of c.shape set way) (16 * slot_of c.shape set way + 16)) memory) memory)
             (get_or-set_other c.tags l (slot_of c.shape set way) tag 0 ne)
 
@@ -138,7 +138,7 @@ module _ (c : Contents) (l tag : ℕ) (sized : IsSized c) (below : l < slot_coun
 
     refilled-by : (m : ℕ) (f : List ℕ → List ℕ)
         → slice_set (slice_set c.tags l tag) (slot_of c.shape (set_of c.shape m) (way_for c m)) (tag_of c.shape m)
-            ≡ f (slice_set c.tags (slot_of c.shape (set_of c.shape m) (way_for c m)) (tag_of c.shape m))
+        ≡ f (slice_set c.tags (slot_of c.shape (set_of c.shape m) (way_for c m)) (tag_of c.shape m))
         → refilled image m memory d ≡ record (refilled image m memory c) { tags = f (refilled image m memory c).tags }
     unfolding refilled filled
     refilled-by m f e =
@@ -150,7 +150,7 @@ module _ (c : Contents) (l tag : ℕ) (sized : IsSized c) (below : l < slot_coun
         → refilled image m memory d ≡ record (refilled image m memory c) { tags = slice_set (refilled image m memory c).tags l tag }
     refilled-tags m ne =
         refilled-by m (λ ts. slice_set ts l tag)
-            (set_comm c.tags l (slot_of c.shape (set_of c.shape m) (way_for c m)) tag (tag_of c.shape m) (λ e. ne (sym e)))
+        (set_comm c.tags l (slot_of c.shape (set_of c.shape m) (way_for c m)) tag (tag_of c.shape m) (λ e. ne (sym e)))
 
     pub refilled-tag : (m : ℕ) → slot_of c.shape (set_of c.shape m) (way_for c m) ≢ l → slice_index (refilled image m memory c).tags l ≡ slice_index c.tags l
     unfolding refilled filled
