@@ -1,5 +1,6 @@
 -- The used slots of a list of slots, and n slots with a list in front. `used` tells a used slot, and `empty` is an unused one.
-use Rattle.std.proofs.Common.{◌≡◌, ℕ, zero, suc, ◌+◌, ◌-◌, ◌<◌, ◌≤◌, Bool, true, false, List, [], ◌∷◌, ◌++◌, length, take, drop, replicate, get_or, cond, refl, sym, ◌∙◌, ap, arith, append_assoc, append-nil, length-append, slice_get, Some, take-append-drop}
+use Rattle.std.proofs.Common.{◌≡◌, ℕ, zero, suc, ◌+◌, ◌-◌, ◌<◌, ◌≤◌, Bool, true, false, List, [], ◌∷◌, ◌++◌, length, take, drop, replicate, get_or}
+use Rattle.std.proofs.Common.{cond, refl, sym, ◌∙◌, ap, arith, append_assoc, append-nil, length-append, take-append-drop}
 use Rattle.std.proofs.Math.ListN.{set}
 use Rattle.std.specs.List.{All, filter}
 use Rattle.std.proofs.lemmas.List.{set_at, set_split, length-replicate}
@@ -7,17 +8,21 @@ use Rattle.std.proofs.lemmas.List.Elements.{filter_more, filter-append, All-tail
 use Rattle.bit_field.specs.Slots.{in_front}
 
 -- an element put behind a list in front
-pub in_front-push : {E : Type 0} (n : ℕ) (empty : E) (es : List E) (e : E) → length es < n → set (in_front n empty es) (length es) e ≡ in_front n empty (es ++ e ∷ [])
+pub in_front-push : {E : Type 0} (n : ℕ) (empty : E) (es : List E) (e : E) → length es < n
+    → set (in_front n empty es) (length es) e ≡ in_front n empty (es ++ e ∷ [])
 in_front-push n empty es e room =
     let q : n - length es ≡ suc (n - (length es + 1)) = omega arith in
     let r : n - length (es ++ e ∷ []) ≡ n - (length es + 1) = omega (arith, length-append es (e ∷ [])) in
-    rw (q, r) (set_at es empty (replicate (n - (length es + 1)) empty) e (length es) refl ∙ sym (append_assoc es (e ∷ []) (replicate (n - (length es + 1)) empty)))
+    rw (q, r)
+    (set_at es empty (replicate (n - (length es + 1)) empty) e (length es) refl ∙ sym (append_assoc es (e ∷ []) (replicate (n - (length es + 1)) empty)))
 
 -- a slot more is read
-pub used-more : {E : Type 0} (used : E → Bool) (slots : List E) (i : ℕ) (x d : E) → i < length slots → x ≡ get_or slots i d → used x ≡ true → filter used (take (i + 1) slots) ≡ filter used (take i slots) ++ x ∷ []
+pub used-more : {E : Type 0} (used : E → Bool) (slots : List E) (i : ℕ) (x d : E) → i < length slots → x ≡ get_or slots i d → used x ≡ true
+    → filter used (take (i + 1) slots) ≡ filter used (take i slots) ++ x ∷ []
 used-more used slots i x d l is v = filter_more used slots i d l ∙ rw (sym is, v) refl
 
-pub unused-more : {E : Type 0} (used : E → Bool) (slots : List E) (i : ℕ) (x d : E) → i < length slots → x ≡ get_or slots i d → used x ≡ false → filter used (take (i + 1) slots) ≡ filter used (take i slots)
+pub unused-more : {E : Type 0} (used : E → Bool) (slots : List E) (i : ℕ) (x d : E) → i < length slots → x ≡ get_or slots i d → used x ≡ false
+    → filter used (take (i + 1) slots) ≡ filter used (take i slots)
 unused-more used slots i x d l is v = filter_more used slots i d l ∙ rw (sym is, v) (append-nil _)
 
 -- the used ones among the first i slots stand in front in `next`
@@ -25,16 +30,24 @@ abbrev pub IsMovedSoFar : {E : Type 0} → (E → Bool) → ℕ → E → List E
 IsMovedSoFar used n empty slots next count i =
     (next ≡ in_front n empty (filter used (take i slots))) × (count ≡ length (filter used (take i slots))) × (count ≤ i)
 
-pub IsMovedSoFar-used : {E : Type 0} (used : E → Bool) (n : ℕ) (empty : E) (slots next : List E) (count i : ℕ) (x d : E) → length slots ≡ n → i < n → x ≡ get_or slots i d → used x ≡ true → IsMovedSoFar used n empty slots next count i → IsMovedSoFar used n empty slots (set next count x) (count + 1) (i + 1)
+pub IsMovedSoFar-used : {E : Type 0} (used : E → Bool) (n : ℕ) (empty : E) (slots next : List E) (count i : ℕ) (x d : E) → length slots ≡ n → i < n
+    → x ≡ get_or slots i d → used x ≡ true → IsMovedSoFar used n empty slots next count i
+    → IsMovedSoFar used n empty slots (set next count x) (count + 1) (i + 1)
 IsMovedSoFar-used used n empty slots next count i x d long l is v h =
-    let e : filter used (take (i + 1) slots) ≡ filter used (take i slots) ++ x ∷ [] = used-more used slots i x d (omega arith) is v in
-    (rw (e, h.0, h.1) (in_front-push n empty (filter used (take i slots)) x (omega (arith, h.1))), rw (e, length-append (filter used (take i slots)) (x ∷ [])) (omega (arith, h.1)), omega (arith, h.2))
+    let e : filter used (take (i + 1) slots) ≡ filter used (take i slots) ++ x ∷ [] = used-more used slots i x d (omega arith) is v in (
+      rw (e, h.0, h.1) (in_front-push n empty (filter used (take i slots)) x (omega (arith, h.1))),
+      rw
+          (e, length-append (filter used (take i slots)) (x ∷ [])) (omega (arith, h.1)),
+      omega (arith, h.2),
+    )
 
-pub IsMovedSoFar-unused : {E : Type 0} (used : E → Bool) (n : ℕ) (empty : E) (slots next : List E) (count i : ℕ) (x d : E) → length slots ≡ n → i < n → x ≡ get_or slots i d → used x ≡ false → IsMovedSoFar used n empty slots next count i → IsMovedSoFar used n empty slots next count (i + 1)
+pub IsMovedSoFar-unused : {E : Type 0} (used : E → Bool) (n : ℕ) (empty : E) (slots next : List E) (count i : ℕ) (x d : E) → length slots ≡ n → i < n
+    → x ≡ get_or slots i d → used x ≡ false → IsMovedSoFar used n empty slots next count i → IsMovedSoFar used n empty slots next count (i + 1)
 IsMovedSoFar-unused used n empty slots next count i x d long l is v h = rw (unused-more used slots i x d (omega arith) is v) (h.0, h.1, omega (arith, h.2))
 
 -- the first used slot
-pub first_used : {E : Type 0} (used : E → Bool) (slots : List E) (i : ℕ) (x d : E) → i < length slots → x ≡ get_or slots i d → used x ≡ true → filter used (take i slots) ≡ [] → filter used slots ≡ x ∷ filter used (drop (i + 1) slots)
+pub first_used : {E : Type 0} (used : E → Bool) (slots : List E) (i : ℕ) (x d : E) → i < length slots → x ≡ get_or slots i d → used x ≡ true
+    → filter used (take i slots) ≡ [] → filter used slots ≡ x ∷ filter used (drop (i + 1) slots)
 first_used {E = E} used slots i x d l is v none =
     let e : filter used (take (i + 1) slots) ≡ x ∷ [] = rw none at (used-more used slots i x d l is v) in
     ap (filter used) (sym (take-append-drop (i + 1) slots))
@@ -68,7 +81,8 @@ used-all used (e ∷ es) all =
     let rest : filter used es ≡ es = used-all used es (All-tail (λ e. used e ≡ true) e es all) in
     rw (first, rest) refl
 
-pub used-in_front : {E : Type 0} (used : E → Bool) (n : ℕ) (empty : E) (es : List E) → used empty ≡ false → All (λ e. used e ≡ true) es → filter used (in_front n empty es) ≡ es
+pub used-in_front : {E : Type 0} (used : E → Bool) (n : ℕ) (empty : E) (es : List E) → used empty ≡ false → All (λ e. used e ≡ true) es
+    → filter used (in_front n empty es) ≡ es
 used-in_front {E = E} used n empty es free all =
     filter-append used es (replicate (n - length es) empty)
     ∙ ap (λ (xs : List E). xs ++ filter used (replicate (n - length es) empty)) (used-all used es all)
@@ -80,5 +94,6 @@ pub used-split : {E : Type 0} (used : E → Bool) (slots : List E) (i : ℕ) →
 used-split used slots i = ap (filter used) (sym (take-append-drop i slots)) ∙ filter-append used (take i slots) (drop i slots)
 
 -- with slot i replaced: those before it, itself where it is used, those behind it
-pub used-set : {E : Type 0} (used : E → Bool) (slots : List E) (i : ℕ) (y : E) → i < length slots → filter used (set slots i y) ≡ filter used (take i slots) ++ cond (used y) (y ∷ filter used (drop (suc i) slots)) (filter used (drop (suc i) slots))
+pub used-set : {E : Type 0} (used : E → Bool) (slots : List E) (i : ℕ) (y : E) → i < length slots
+    → filter used (set slots i y) ≡ filter used (take i slots) ++ cond (used y) (y ∷ filter used (drop (suc i) slots)) (filter used (drop (suc i) slots))
 used-set used slots i y l = ap (filter used) (set_split slots i y l) ∙ filter-append used (take i slots) (y ∷ drop (suc i) slots)

@@ -24,8 +24,8 @@ pub use facts::{events_law, flip_law, runs_law, sizes_law};
 pub use fate::Fate;
 pub use machine::{CYCLES_PER_INSTRUCTION, Machine};
 pub use memory_stage::Served;
-pub use port::{Move, PortLatch};
-pub use registers::{ProgramCounter, RegisterFile};
+pub use port::{Move, PORT_FIELDS, PortField, PortLatch};
+pub use registers::{ProgramCounter, REGISTERS, RegisterFile};
 pub use report::CycleReport;
 
 #[cfg(test)]

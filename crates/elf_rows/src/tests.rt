@@ -1,6 +1,6 @@
 //! Files by hand, with what they mean by the ELF specification and the written reasons to refuse.
 use elf_fixture::{Header, Segment, THREE, bytes_of, file, flat, segmented};
-use elf_load::{LoadError, load, segments};
+use elf_load::{LoadError, accepted_means_image, load, segments};
 use std::test::Fail;
 
 const MIB: u32 = 1_048_576;
@@ -72,6 +72,7 @@ fn refuses_a_short_file(rt: HostRuntime) -> Result<(), Fail> {
 
 #[test]
 fn loads_one_segment(rt: HostRuntime) -> Result<(), Fail> {
+    accepted_means_image();
     let alloc = rt.alloc();
     let image = load(alloc, &flat(alloc, &THREE)?, MIB)?;
     assert_eq!(rt;

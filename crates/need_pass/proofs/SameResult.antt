@@ -73,7 +73,3 @@ same_shl a c n j l same =
 
 pub same_shr : (a c n j : ℕ) → bit_at a (n + j) ≡ bit_at c (n + j) → bit_at (a / 2 ^ n) j ≡ bit_at (c / 2 ^ n) j
 same_shr a c n j e = bit_at-shr a n j ∙ e ∙ sym (bit_at-shr c n j)
-
--- all bits the same, the same number
-pub same_all : (a c : ℕ) → a < 2 ^ 32 → c < 2 ^ 32 → ((k : ℕ) → k < 32 → bit_at a k ≡ bit_at c k) → a ≡ c
-same_all a c h g same = same_from_bits_below 32 a c h g same

@@ -232,6 +232,7 @@ fn check<L: Ledger>(
 ) -> Result<(), Fail> {
     let image = flat(alloc, row.words)?;
     let trace = run(alloc, &image, 9, applies)?;
+    need_facts();
     let table = needs(alloc, &trace)?;
     assert_eq!(rt; table.len(), trace.len());
     check_registers(rt, &table, row.registers);

@@ -61,10 +61,17 @@ pub written-none : (m : ExecutedLatch) → 6 ≤ m.kind → m.kind ≤ 11 → wr
 written-none m low high = grind (arith, nat_tests, action_of-tests m)
 
 -- it writes register r, not 0, where it is valid, its register is r and the kind is a load or a write back
-pub written-exactly : (m : ExecutedLatch) (r : ℕ) → r ≢ 0 → (written_register (action_of m) ≡ r) ↔ (IsTrue m.valid × (m.rd ≡ r) × ((m.kind ≤ 5) ⊎ (12 ≤ m.kind)))
-written-exactly m r ne = (λ e. grind (arith, nat_tests, action_of-invalid m, written-load m, written-back m, written-none m), λ h. grind (arith, nat_tests, written-load m, written-back m))
+pub written-exactly : (m : ExecutedLatch) (r : ℕ) → r ≢ 0
+    → (written_register (action_of m) ≡ r) ↔ (IsTrue m.valid × (m.rd ≡ r) × ((m.kind ≤ 5) ⊎ (12 ≤ m.kind)))
+written-exactly m r ne = (
+  λ e.
+      grind (arith, nat_tests, action_of-invalid m, written-load m, written-back m, written-none m),
+  λ h. grind
+      (arith, nat_tests, written-load m, written-back m),
+)
 
 -- what EX writes into the latch comes out as what the instruction asks for
-pub action_of-executed : (image : LoadedImage) (d : DecodedLatch) (a b : ℕ) → action_of (executed image d a b) ≡ action (word_in_ram image) (executable image) (op_of_latch d) d.pc a b
+pub action_of-executed : (image : LoadedImage) (d : DecodedLatch) (a b : ℕ)
+    → action_of (executed image d a b) ≡ action (word_in_ram image) (executable image) (op_of_latch d) d.pc a b
 unfolding executed
 action_of-executed image d a b = action_of-latch_of (action (word_in_ram image) (executable image) (op_of_latch d) d.pc a b)

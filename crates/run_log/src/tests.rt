@@ -7,7 +7,7 @@ use avf_base::{End, Steps, counter};
 use bit_field::plain_shape;
 use cyc_machine::Machine;
 use elf_load::{Image, load};
-use flush_view::{run_law, step_flush, view_byte};
+use flush_view::{cycle_laws, flush_laws, run_law, step_flush, struck_laws, view_byte};
 use std::alloc::Global;
 use std::fs::Files;
 use std::marker::Brand;
@@ -86,6 +86,9 @@ fn check_clock<L: Ledger>(
 fn check_laws<L: Ledger>(rt: &impl Abort, alloc: Global, steps: &mut Steps<L>) -> Result<(), Fail> {
     let image = flat(alloc, &CLOCK)?;
     run_law(&image, &plain_shape());
+    cycle_laws();
+    flush_laws();
+    struck_laws();
     let mut machine = Machine::new(alloc, &image)?;
     assert_eq!(rt; view_byte(&machine, 0x1_0000), 0x73);
     assert_eq!(rt; view_byte(&machine, 0x1_0003), 0xC0);

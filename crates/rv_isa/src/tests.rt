@@ -123,6 +123,8 @@ fn check_all<R: Abort + Files, L: Ledger>(rt: &R, alloc: Global, blank: Blank) -
     requires parts { blank.parts ≡ L.parts }
     requires some { 0 < L.parts }
 {
+    access_law();
+    words_law();
     let mut applies = counter::<R, L>(rt, blank);
     for row in &ROWS {
         check(rt, alloc, row, &mut applies)?;

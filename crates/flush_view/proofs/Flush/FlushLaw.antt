@@ -27,7 +27,6 @@ use Rattle.flush_view.proofs.Flush.Path.{path-added}
 use Rattle.flush_view.proofs.Flush.PipeLaw.{added_to, flush_more}
 use Rattle.flush_view.proofs.Flush.MachinePipe.{piped}
 use Rattle.flush_view.proofs.Flush.Pipes.{flush_pipe, latched_pipe}
-use Rattle.wb_cache.specs.Contents.{AreBytes}
 use Rattle.cyc_machine.specs.Sizes.{IsSteady}
 
 -- ---- a path over masked memory whose log avoids X

@@ -23,7 +23,6 @@ use Rattle.flush_view.proofs.Memory.Overlay.{one_word}
 use Rattle.flush_view.proofs.Flush.PipeLaw.{added_to, fed_pipe, flush_more, leaves, waits}
 use Rattle.flush_view.proofs.Flush.MachinePipe.{piped, piped-next}
 use Rattle.flush_view.proofs.Flush.Pipes.{Pipe, flush_pipe, next_pipe}
-use Rattle.wb_cache.specs.Contents.{AreBytes}
 use Rattle.cyc_machine.specs.Sizes.{IsSteady}
 
 -- ---- an action that avoids X sees and makes the same outside X

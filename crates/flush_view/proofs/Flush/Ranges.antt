@@ -11,12 +11,15 @@ use Rattle.inst_buf.specs.Entry.{Entry}
 use Rattle.rv_table.specs.Effects.{written_register}
 use Rattle.rv_table.specs.Words.{decode}
 use Rattle.rv_table.specs.declared.action.Action.{Action}
+use Rattle.rv_table.specs.declared.action.Action.TheVariants.{Nothing}
 use Rattle.rv_isa.specs.Instruction.{State as Arch, Log, completed, given, put_reg}
 use Rattle.rv_isa.proofs.Ranges.{given_below, operand_below, put_below, words_completed, words_performed}
 use Rattle.rv_table.proofs.Addresses.{next_address-below}
 use Rattle.rv_table.proofs.DecodedFields.{decode-imm}
 use Rattle.rv_table.proofs.Ranges.{IsSmall}
-use Rattle.pipe_latch.specs.LatchedActions.{action_of}
+use Rattle.pipe_latch.specs.LatchedActions.{action_by, action_of, kind_of}
+use Rattle.pipe_latch.specs.declared.kinds.ExMemKind.{ExMemKind}
+use Rattle.pipe_latch.specs.declared.kinds.ExMemKind.TheVariants.{Exit, Load, Put, Store, Trap, WriteBack}
 use Rattle.pipe_latch.specs.Latches.{DecodedLatch, ExecutedLatch, ResultLatch}
 use Rattle.pipe_latch.proofs.Settled.{settled-operand}
 use Rattle.cyc_machine.specs.Cycle.{action_in_m}
@@ -26,33 +29,28 @@ use Rattle.cyc_machine.specs.Pipeline.{op_of_entry, register}
 use Rattle.cyc_machine.specs.Sizes.{HoldsBytes}
 use Rattle.cyc_machine.specs.State.{State}
 use Rattle.flush_view.specs.Flush.{before_latches, completed_path, flush, item_of_entry, latched, path}
-use Rattle.flush_view.specs.FlushParts.{InRange}
+use Rattle.flush_view.specs.FlushInputs.{InRange}
 use Rattle.flush_view.specs.Views.{view}
 use Rattle.flush_view.proofs.Flush.Operands.{written-by}
 use Rattle.flush_view.proofs.Memory.ViewBytes.{view-below}
 
 -- ---- what the latches hold
 
-small_if : (b : Bool) (x y : Action) → IsSmall x → IsSmall y → IsSmall (if b then x else y)
-small_if true x y h k = h
-small_if false x y h k = k
+small_by : (kind : ExMemKind) (m : ExecutedLatch) → m.x < 2 ^ 32 → IsSmall (action_by kind m)
+small_by WriteBack m h = h
+small_by (Load kind) m h = tt
+small_by (Store kind) m h = tt
+small_by Put m h = tt
+small_by Exit m h = tt
+small_by Trap m h = tt
 
 pub small-latch : (m : ExecutedLatch) → m.x < 2 ^ 32 → IsSmall (action_of m)
 unfolding action_of
-small-latch m h =
-    small_if m.valid _ _
-    (small_if (m.kind == 1) _ _ tt
-    (small_if (m.kind == 2) _ _ tt
-    (small_if (m.kind == 3) _ _ tt
-    (small_if (m.kind == 4) _ _ tt
-    (small_if (m.kind == 5) _ _ tt
-    (small_if (m.kind == 6) _ _ tt
-    (small_if (m.kind == 7) _ _ tt
-    (small_if (m.kind == 8) _ _ tt
-    (small_if (m.kind == 9) _ _ tt
-    (small_if (m.kind == 10) _ _ tt
-    (small_if (m.kind == 11) _ _ tt h)))))))))))
-    tt
+small-latch m h = go m.valid
+  where
+    go : (b : Bool) → IsSmall (if b then action_by (kind_of m.kind) m else Nothing)
+    go true = small_by (kind_of m.kind) m h
+    go false = tt
 
 pub operand-below : (image : LoadedImage) (m : Action) (w : ResultLatch) (memory : ℕ → ℕ) (rs held : ℕ) → IsSmall m → ((p : ℕ) → memory p < 2 ^ 8)
     → w.value < 2 ^ 32 → held < 2 ^ 32 → operand_held image m w memory rs held < 2 ^ 32

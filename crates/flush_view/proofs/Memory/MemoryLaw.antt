@@ -11,7 +11,7 @@ use Rattle.rv_table.specs.declared.action.Action.TheVariants.{Nothing, Writes, L
 use Rattle.rv_table.specs.declared.operation.StoreKind.{StoreKind}
 use Rattle.store_buf.specs.Entry.{Entry}
 use Rattle.store_buf.specs.Pending.{pending}
-use Rattle.wb_cache.specs.Contents.{Contents, slots, AreBytes}
+use Rattle.wb_cache.specs.Contents.{Contents, slots}
 use Rattle.cyc_machine.specs.Cycle.{action_in_m, cycle, cycled, move, served_m, done_in}
 use Rattle.cyc_machine.specs.Memory.{cache_after, kept_stores, load_client, memory_after, store_client, stores_after, word_read}
 use Rattle.cyc_machine.specs.State.{State}
