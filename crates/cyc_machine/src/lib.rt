@@ -2,7 +2,8 @@
 //
 // `machine` has the state and the cycle; `memory_stage`, `execute` and `front_end` are the cycle's paragraphs
 // (clients, port, memory stage and store buffer; operands, execution and the predictor; decoding and fetching);
-// `registers` and `port` are the structures that belong to this crate alone; `report` is what a cycle shows.
+// `registers` and `port` are the structures that belong to this crate alone; `report` is what a cycle shows; `facts` has the
+// laws.
 #![tactic(auto)]
 
 mod accessors;
