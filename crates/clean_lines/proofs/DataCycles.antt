@@ -33,7 +33,7 @@ use Rattle.clean_lines.proofs.BytesRead.{ReadsAlike, served-alike}
 use Rattle.clean_lines.proofs.DataMoves.{byte-off, memory-kept, read-kept, refilled-gone, refilled-kept, with_byte, written-gone, written-kept}
 use Rattle.clean_lines.proofs.OtherBytes.{found-other, move-other}
 use Rattle.clean_lines.proofs.OtherCache.{cycle-other, same-other}
-use Rattle.clean_lines.proofs.Stays.{clean-either, clean-held, dirty-held, held-cycle, held_then, line_at, other-slot}
+use Rattle.clean_lines.proofs.Stays.{clean-held, dirty-held, held-cycle, held_then, line_at, other-slot}
 
 -- the lanes of a word of a slot that is another one, or of another word, or that don't name the byte
 off-lanes : (slot l word byte mask lane : ℕ) → (slot == l && (word == byte / 4 && has_lane mask (byte % 4))) ≡ false → lane < 4

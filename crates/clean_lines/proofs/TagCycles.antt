@@ -1,7 +1,7 @@
 -- The cycle from a state with a struck tag bit of a clean line.
 use Rattle.std.proofs.Common.{◌≡◌, ◌≢◌, ℕ, ◌+◌, ◌*◌, ◌/◌, ◌%◌, ◌^◌, ◌<◌, Bool, true, false, List, refl, sym, ◌∙◌, ap, subst}
 use Rattle.std.specs.Prelude.{Option, Some, None, ◌==◌, ◌&&◌, bit_xor, slice_index, slice_index_or, slice_set, if◌then◌else◌}
-use Rattle.std.proofs.lemmas.Bool.{eqb-true, eq-eqb}
+use Rattle.std.proofs.lemmas.Bool.{eqb-true}
 use Rattle.bit_field.specs.Shapes.{slots as slot_count, tag_bits}
 use Rattle.bit_field.specs.declared.shapes.Shape.{Shape}
 use Rattle.store_buf.specs.Entry.{Entry}
