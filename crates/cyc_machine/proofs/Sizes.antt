@@ -7,5 +7,4 @@ pub mod Front
 pub mod Widths
 pub mod Lasting
 pub mod Flipped
-pub mod Results
 pub mod Words

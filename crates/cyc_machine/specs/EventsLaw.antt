@@ -67,7 +67,8 @@ pub record IsEventOf (number : ℕ) (c : Contents) (e : CacheEvent) : Type 0 whe
 
 pub record EventLaw (s next : State) : Type 0 where
   pub event : ForSome (event_in s) (IsEventOf s.cycle s.cache)
-  pub lines : slots next.cache ≡ slots_by (event_in s) s.cache.shape (value_drained (oldest (pending s.stores))) (ram_byte next.image next.memory) (slots s.cache)
+  pub lines : slots next.cache ≡ slots_by (event_in s) s.cache.shape (value_drained (oldest (pending s.stores))) (ram_byte next.image next.memory)
+      (slots s.cache)
   pub memory : ram_byte next.image next.memory ≡ memory_by (event_in s) s.image s.cache.shape (slots s.cache) (ram_byte s.image s.memory)
 
 -- Many cycles.

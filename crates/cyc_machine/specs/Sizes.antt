@@ -8,8 +8,10 @@ use Rattle.pipe_latch.specs.Latches.{DecodedLatch, ExecutedLatch}
 use Rattle.predictor.specs.Places as tables_bits
 use Rattle.store_buf.specs.Entry.{Entry}
 use Rattle.store_buf.specs.Pending.{pending}
+use Rattle.store_buf.specs.declared.buffer.TheConstants.{SLOTS}
 use Rattle.wb_cache.specs.Contents.{IsSized}
 use Rattle.cyc_machine.specs.RegisterBits.{IsCounterFit}
+use Rattle.cyc_machine.specs.declared.registers.TheConstants.{REGISTERS}
 use Rattle.cyc_machine.specs.State.{State}
 
 -- cache and main memory hold bytes
@@ -46,13 +48,13 @@ pub record IsSteady (s : State) : Type 0 where
   pub pc : IsCounterFit s.pc
   pub npc : IsCounterFit s.npc
   pub tables : tables_bits.IsFit s.tables
-  pub buffer : buffer_bits.IsFit s.buffer  -- four slots, with words of 32 bits
+  pub buffer : buffer_bits.IsFit s.buffer  -- each slot, with a word of 32 bits
   pub d : IsDecodedSteady s.d
   pub m : IsExecutedSteady s.m
   pub w_rd : s.w.rd < 32
-  pub registers : length s.registers ≡ 31
+  pub registers : length s.registers ≡ REGISTERS
   pub port : s.port.count < 32
-  pub slots : length s.stores ≡ 4
+  pub slots : length s.stores ≡ SLOTS
   pub masks : All IsPendingSteady s.stores
-  pub stores : length (pending s.stores) ≤ 4
+  pub stores : length (pending s.stores) ≤ SLOTS
   pub issued : s.issued < 2 ^ 32

@@ -68,17 +68,16 @@ pub rising-cycles : (test : CacheEvent → Bool) (es : List CacheEvent) → AllP
 unfolding cycles_of
 rising-cycles test es h = rising-shown (λ (e : CacheEvent). e.cycle) (λ c. c) (λ e. e.cycle) (λ e. refl) test es h
 
--- where all events come later than a cycle, so does the first that passes a test
-after-more : (k : ℕ) (e : CacheEvent) (r : Option CacheEvent) (b : Bool) → k < e.cycle → IfSome r (λ e. k < e.cycle) →
-    IfSome (cond b (Some e) r) (λ e. k < e.cycle)
-after-more k e r true here rest = here
-after-more k e r false here rest = rest
+-- what holds of all events holds of the first that passes a test
+all-more : (P : CacheEvent → Type 0) (e : CacheEvent) (r : Option CacheEvent) (b : Bool) → P e → IfSome r P → IfSome (cond b (Some e) r) P
+all-more P e r true here rest = here
+all-more P e r false here rest = rest
 
-pub first-after : (test : CacheEvent → Bool) (k t : ℕ) (es : List CacheEvent) → All (λ e. k < e.cycle) es → IfSome (first_event test t es) (λ e. k < e.cycle)
+pub first-all : (P : CacheEvent → Type 0) (test : CacheEvent → Bool) (t : ℕ) (es : List CacheEvent) → All P es → IfSome (first_event test t es) P
 unfolding first_event
-first-after test k t [] h = tt
-first-after test k t (e ∷ es) h = after-more k e (first_event test t es) (nat_le t e.cycle && test e) (h 0 e (omega arith))
-    (first-after test k t es (λ i d l. h (suc i) d (omega arith)))
+first-all P test t [] h = tt
+first-all P test t (e ∷ es) h =
+    all-more P e (first_event test t es) (nat_le t e.cycle && test e) (h 0 e (omega arith)) (first-all P test t es (λ i d l. h (suc i) d (omega arith)))
 
 -- of two events the earlier one, and the first of them where they come in one cycle
 abbrev pub earlier : Option CacheEvent → Option CacheEvent → Option CacheEvent
@@ -113,7 +112,8 @@ first-either p q t [] h = refl
 first-either p q t (e ∷ es) h =
     let later = pairs-head (λ (d e : CacheEvent). d.cycle < e.cycle) e es h in
     either-more e (first_event p t es) (first_event q t es) (first_event (λ e. p e || q e) t es) (nat_le t e.cycle) (p e) (q e)
-        (first-after p e.cycle t es later) (first-after q e.cycle t es later) (first-either p q t es (pairs-tail (λ d e. d.cycle < e.cycle) e es h))
+    (first-all (λ d. e.cycle < d.cycle) p t es later) (first-all (λ d. e.cycle < d.cycle) q t es later)
+    (first-either p q t es (pairs-tail (λ d e. d.cycle < e.cycle) e es h))
 
 -- one element more, where it passes the test
 shown-last : {X Y : Type 0} (g : X → Y) (x : X) (ys : List X) (b : Bool) → map g (ys ++ cond b (x ∷ []) []) ≡ cond b (map g ys ++ g x ∷ []) (map g ys)
@@ -141,3 +141,21 @@ pub first-passes : (test : CacheEvent → Bool) (t : ℕ) (es : List CacheEvent)
 unfolding first_event
 first-passes test t [] = tt
 first-passes test t (e ∷ es) = passes-more test e (first_event test t es) (nat_le t e.cycle) (test e) refl (first-passes test t es)
+
+-- one event more
+abbrev pub or_event : Option CacheEvent → Bool → CacheEvent → Option CacheEvent
+or_event (Some a) b e = Some a
+or_event None b e = cond b (Some e) None
+
+push-more : (a : CacheEvent) (r q : Option CacheEvent) (b c : Bool) (e : CacheEvent) → r ≡ or_event q c e
+    → cond b (Some a) r ≡ or_event (cond b (Some a) q) c e
+push-more a r q true c e h = refl
+push-more a r q false c e h = h
+
+pub first-push : (test : CacheEvent → Bool) (t : ℕ) (es : List CacheEvent) (e : CacheEvent) →
+    first_event test t (es ++ e ∷ []) ≡ or_event (first_event test t es) (nat_le t e.cycle && test e) e
+unfolding first_event
+first-push test t [] e = refl
+first-push test t (a ∷ es) e =
+    push-more a (first_event test t (es ++ e ∷ [])) (first_event test t es) (nat_le t a.cycle && test a) (nat_le t e.cycle && test e) e
+    (first-push test t es e)

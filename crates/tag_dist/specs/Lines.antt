@@ -1,13 +1,12 @@
 -- What the instructions of a run do with lines. A line is a byte address divided by 16.
-use Rattle.std.specs.Prelude.{ℕ, zero, suc, ◌/◌, ◌==◌, ◌||◌, Bool, false, List, Option, Some, None, length, slice_get, if◌then◌else◌}
+use Rattle.std.specs.Prelude.{ℕ, zero, suc, ◌==◌, Bool, false, List, Option, Some, None, length, slice_get, if◌then◌else◌}
 use Rattle.std.specs.Option.{option_map_or}
+use Rattle.rv_isa.specs.Accesses.{recorded_line}
 use Rattle.rv_isa.specs.declared.effect.Retired.{Retired}
 
--- Whether an instruction loads from or stores to a line. One that traps does neither. An access is of 1, 2 or 4 bytes at a multiple
--- of their number, so all its bytes are of one line.
+-- whether an instruction loads from or stores to a line; one that traps does neither
 abbrev pub accesses : ℕ → Retired → Bool
-accesses line entry =
-    option_map_or (λ load. load.0 / 16 == line) entry.effect.load false || option_map_or (λ store. store.0 / 16 == line) entry.effect.store false
+accesses line entry = option_map_or (λ accessed. accessed == line) (recorded_line entry.effect) false
 
 -- the greatest number below n that passes a test
 unfoldable pub last_below : ℕ → (ℕ → Bool) → Option ℕ

@@ -16,11 +16,13 @@ use Rattle.store_buf.specs.declared.cover.Cover.TheVariants.{Full, Part, None as
 use Rattle.wb_cache.specs.Access.{found}
 use Rattle.wb_cache.specs.Contents.{Contents, IsContents, IsSized, AreBytes}
 use Rattle.wb_cache.proofs.Calls.{length-after_refill}
-use Rattle.wb_cache.proofs.Kept.{bytes-after_read, bytes-after_refill, bytes-after_write, contents-after_read, contents-after_refill, contents-after_write, memory-bytes-after_refill, sized-after_read, sized-after_refill, sized-after_write}
+use Rattle.wb_cache.proofs.Kept.{bytes-after_read, bytes-after_refill, bytes-after_write, contents-after_read, contents-after_refill, contents-after_write}
+use Rattle.wb_cache.proofs.Kept.{memory-bytes-after_refill, sized-after_read, sized-after_refill, sized-after_write}
 use Rattle.cyc_machine.specs.declared.port.Move.{Move}
 use Rattle.cyc_machine.specs.declared.port.Move.TheVariants.{Rests, Reads, Drains, Misses, Waits, Leaves, Fills}
 use Rattle.cyc_machine.specs.Cycle.{action_in_m, cycle, cycled, move}
-use Rattle.cyc_machine.specs.Memory.{asked_word, cache_after, continues, drained_by, filled_by, load_client, memory_after, move_of, owned_word, read_by, starts, store_client, uncovered_word}
+use Rattle.cyc_machine.specs.Memory.{asked_word, cache_after, continues, drained_by, filled_by, load_client, memory_after, move_of, owned_word, read_by}
+use Rattle.cyc_machine.specs.Memory.{starts, store_client, uncovered_word}
 use Rattle.cyc_machine.specs.PortState.{PortState}
 use Rattle.cyc_machine.specs.State.{State}
 
@@ -109,7 +111,8 @@ owned-below true load (Some e) h g = g
 owned-below true load None h g = tt
 owned-below false load store h g = h
 
-move-below : (port : PortState) (c : Contents) (load : Option ℕ) (store : Option Entry) → IfSome load (λ word. word < 2 ^ 30) → IfSome store (λ e. e.addr < 2 ^ 30)
+move-below : (port : PortState) (c : Contents) (load : Option ℕ) (store : Option Entry) → IfSome load (λ word. word < 2 ^ 30)
+    → IfSome store (λ e. e.addr < 2 ^ 30)
     → FillsBelow (move_of port c load store)
 unfolding move_of
 move-below port c load store h g = go (port.count == 0)
@@ -123,7 +126,8 @@ uncovered-below Uncovered word h = h
 uncovered-below Part word h = tt
 uncovered-below (Full value) word h = tt
 
-asked-below : (image : LoadedImage) (kind : LoadKind) (x : ℕ) (stores : List Entry) → IsImage image → IfSome (asked_word image kind x stores) (λ word. word < 2 ^ 30)
+asked-below : (image : LoadedImage) (kind : LoadKind) (x : ℕ) (stores : List Entry) → IsImage image
+    → IfSome (asked_word image kind x stores) (λ word. word < 2 ^ 30)
 unfolding asked_word
 asked-below image kind x stores is = go (word_in_ram image (x / 4)) refl
   where
@@ -151,7 +155,8 @@ store-below image (e ∷ stores) is = go (word_in_ram image e.addr) refl
     go true h = word_in_ram-below image e.addr is h
     go false h = tt
 
-contents-by : (image : LoadedImage) (v : Move) (memory : List ℕ) (c : Contents) → IsImage image → length memory ≡ length image.ram → AreBytes memory → FillsBelow v → IsContents c
+contents-by : (image : LoadedImage) (v : Move) (memory : List ℕ) (c : Contents) → IsImage image → length memory ≡ length image.ram → AreBytes memory
+    → FillsBelow v → IsContents c
     → IsContents (cache_after image v memory c)
 unfolding cache_after
 contents-by image Rests memory c is long bytes below h = h
@@ -168,5 +173,6 @@ pub contents-next : (s : State) → IsImage s.image → length s.memory ≡ leng
 unfolding cycled
 contents-next s is long bytes h =
     contents-by s.image (move s) s.memory s.cache is long bytes
-    (move-below s.port s.cache (load_client s.image (action_in_m s) (pending s.stores)) (store_client s.image (pending s.stores)) (load-below s.image (action_in_m s) (pending s.stores) is) (store-below s.image (pending s.stores) is))
+    (move-below s.port s.cache (load_client s.image (action_in_m s) (pending s.stores)) (store_client s.image (pending s.stores))
+    (load-below s.image (action_in_m s) (pending s.stores) is) (store-below s.image (pending s.stores) is))
     h

@@ -31,10 +31,27 @@ use Rattle.cyc_machine.specs.Strikes.{InRange, flip_in}
 
 -- the parts of what holds of every machine
 pub made : (s : State) → IsImage s.image → length s.memory ≡ length s.image.ram → All (λ b. b < 2 ^ 8) s.memory → s.issued < 2 ^ 32 → IsContents s.cache
-    → counters.IsCounterFit s.pc → counters.IsCounterFit s.npc → tables_bits.IsFit s.tables → ib_bits.IsFit s.buffer → idex_bits.IsFit s.d → exmem_bits.IsFit s.m
+    → counters.IsCounterFit s.pc → counters.IsCounterFit s.npc → tables_bits.IsFit s.tables → ib_bits.IsFit s.buffer → idex_bits.IsFit s.d
+    → exmem_bits.IsFit s.m
     → memwb_bits.IsFit s.w → counters.IsFileFit s.registers → sb_bits.IsFit s.stores → port_bits.IsFit s.port → IsMachine s
 made s image memory memory_bytes issued cache pc npc tables buffer d m w registers stores port =
-    record { image = image; memory = memory; memory_bytes = memory_bytes; issued = issued; cache = cache; pc = pc; npc = npc; tables = tables; buffer = buffer; d = d; m = m; w = w; registers = registers; stores = stores; port = port }
+    record {
+      image = image;
+      memory = memory;
+      memory_bytes = memory_bytes;
+      issued = issued;
+      cache = cache;
+      pc = pc;
+      npc = npc;
+      tables = tables;
+      buffer = buffer;
+      d = d;
+      m = m;
+      w = w;
+      registers = registers;
+      stores = stores;
+      port = port;
+    }
 
 pub flip-keeps : (a : Structure) (s : State) (k : ℕ) → IsMachine s → k < bits_in a s.cache.shape → IsMachine (flip_in a s k)
 flip-keeps Pc s k f l =
@@ -44,10 +61,12 @@ flip-keeps Npc s k f l =
     let here = registers.counter_laws.fit_stays s.npc k f.npc l in
     made (flip_in Npc s k) f.image f.memory f.memory_bytes f.issued f.cache f.pc here f.tables f.buffer f.d f.m f.w f.registers f.stores f.port
 flip-keeps Bht s k f l =
-    let here : tables_bits.IsFit (flip_in Bht s k).tables = record { history = history.laws.fit_stays s.tables.history k f.tables.history l; targets = f.tables.targets } in
+    let here : tables_bits.IsFit (flip_in Bht s k).tables =
+    record { history = history.laws.fit_stays s.tables.history k f.tables.history l; targets = f.tables.targets } in
     made (flip_in Bht s k) f.image f.memory f.memory_bytes f.issued f.cache f.pc f.npc here f.buffer f.d f.m f.w f.registers f.stores f.port
 flip-keeps Btb s k f l =
-    let here : tables_bits.IsFit (flip_in Btb s k).tables = record { history = f.tables.history; targets = targets.laws.fit_stays s.tables.targets k f.tables.targets l } in
+    let here : tables_bits.IsFit (flip_in Btb s k).tables =
+    record { history = f.tables.history; targets = targets.laws.fit_stays s.tables.targets k f.tables.targets l } in
     made (flip_in Btb s k) f.image f.memory f.memory_bytes f.issued f.cache f.pc f.npc here f.buffer f.d f.m f.w f.registers f.stores f.port
 flip-keeps Ib s k f l =
     let here = ib.laws.fit_stays s.buffer k f.buffer l in

@@ -1,5 +1,6 @@
 -- A cycle keeps the widths of what IF, ID and the predictor hold.
-use Rattle.std.proofs.Common.{◌≡◌, ℕ, ◌+◌, ◌-◌, ◌/◌, ◌%◌, ◌^◌, ◌<◌, ◌≤◌, Bool, true, false, List, [], ◌∷◌, ◌++◌, length, drop, replicate, arith, lit<, refl, ◌∙◌, length-append, length-drop}
+use Rattle.std.proofs.Common.{◌≡◌, ℕ, ◌+◌, ◌-◌, ◌/◌, ◌%◌, ◌^◌, ◌<◌, ◌≤◌, Bool, true, false, List, [], ◌∷◌, ◌++◌, length, drop, replicate, arith, lit<}
+use Rattle.std.proofs.Common.{refl, ◌∙◌, length-append, length-drop}
 use Rattle.std.specs.Prelude.{Option, Some, None, IfSome, not, ◌&&◌, nat_lt, pred, All, if◌then◌else◌, slice_get, slice_set}
 use Rattle.std.proofs.lemmas.Bool.Decides.{nat_tests}
 use Rattle.std.proofs.lemmas.List.Elements.{All-append, All-drop, All-filter, All-nil, All-push, All-replicate, All-set}
@@ -28,7 +29,8 @@ use Rattle.predictor.specs.TargetBits as targets_bits
 use Rattle.predictor.specs.Tables.{Tables, Target, counter_at, moved, no_target, predicted, predicts_taken, target_at, trained}
 use Rattle.cyc_machine.specs.declared.fate.Fate.{Fate}
 use Rattle.cyc_machine.specs.declared.fate.Fate.TheVariants.{Absent, Dropped, Stays, Goes}
-use Rattle.cyc_machine.specs.Pipeline.{counted, decoded, decoded_after, entries_after, fetched, entry_of_word, filled, if_room, lesson, npc_after, op_of_entry, pc_after, taken, trained_by}
+use Rattle.cyc_machine.specs.Pipeline.{counted, decoded, decoded_after, entries_after, fetched, entry_of_word, filled, if_room, lesson, npc_after}
+use Rattle.cyc_machine.specs.Pipeline.{op_of_entry, pc_after, taken, trained_by}
 use Rattle.cyc_machine.specs.Sizes.{IsDecodedSteady}
 use Rattle.rv_table.proofs.DecodedFields.{decode-imm}
 
@@ -80,7 +82,8 @@ learned-by false taken next h = tt
 learned-below : (d : DecodedLatch) (a b : ℕ) → IsAddressed (learned d a b)
 unfolding learned
 learned-below d a b =
-    learned-by (is_branch_or_jump (operation_of d.op) && not (misses_target (operation_of d.op) (op_of_latch d) d.pc a b)) (was_taken (op_of_latch d) a b) (next_of d a b) (next_of-below d a b)
+    learned-by (is_branch_or_jump (operation_of d.op) && not (misses_target (operation_of d.op) (op_of_latch d) d.pc a b)) (was_taken (op_of_latch d) a b)
+    (next_of d a b) (next_of-below d a b)
 
 lesson-below : (f : Fate) (d : DecodedLatch) (clock issued : ℕ) → IsAddressed (lesson f d clock issued)
 unfolding lesson
@@ -96,14 +99,16 @@ moved-below false counter h = omega arith
 counter-fits : (tables : Tables) (pc : ℕ) → tables_bits.IsFit tables → counter_at tables pc < 2 ^ 2
 counter-fits tables pc fit = let long = fit.history.0 in fit.history.1 (pc % 64) 0 (omega (arith, long))
 
-trained-fits : (tables : Tables) (pc : ℕ) (taken : Bool) (target : ℕ) → pc < 2 ^ 30 → target < 2 ^ 30 → tables_bits.IsFit tables → tables_bits.IsFit (trained tables pc taken target)
+trained-fits : (tables : Tables) (pc : ℕ) (taken : Bool) (target : ℕ) → pc < 2 ^ 30 → target < 2 ^ 30 → tables_bits.IsFit tables
+    → tables_bits.IsFit (trained tables pc taken target)
 unfolding trained
 trained-fits tables pc taken target h g fit = record { history = history; targets = targets taken }
   where
     history : history_bits.IsFit (slice_set tables.history (pc % 64) (moved taken (counter_at tables pc)))
     history = (
       length-set tables.history (pc % 64) (moved taken (counter_at tables pc)) ∙ fit.history.0,
-      All-set (λ counter. counter < 2 ^ 2) tables.history (pc % 64) (moved taken (counter_at tables pc)) (moved-below taken (counter_at tables pc) (counter-fits tables pc fit)) fit.history.1,
+      All-set (λ counter. counter < 2 ^ 2) tables.history (pc % 64) (moved taken (counter_at tables pc))
+          (moved-below taken (counter_at tables pc) (counter-fits tables pc fit)) fit.history.1,
     )
 
     put : Target
@@ -116,11 +121,13 @@ trained-fits tables pc taken target h g fit = record { history = history; target
     targets true = (length-set tables.targets (pc % 16) put ∙ fit.targets.0, All-set target_bits.IsFit tables.targets (pc % 16) put put-fits fit.targets.1)
     targets false = fit.targets
 
-trained_by-fits : (o : Option (Bool × ℕ)) (pc : ℕ) (tables : Tables) → IsAddressed o → pc < 2 ^ 30 → tables_bits.IsFit tables → tables_bits.IsFit (trained_by o pc tables)
+trained_by-fits : (o : Option (Bool × ℕ)) (pc : ℕ) (tables : Tables) → IsAddressed o → pc < 2 ^ 30 → tables_bits.IsFit tables
+    → tables_bits.IsFit (trained_by o pc tables)
 trained_by-fits (Some (taken, target)) pc tables g h fit = trained-fits tables pc taken target h g fit
 trained_by-fits None pc tables g h fit = fit
 
-pub tables-fit : (f : Fate) (d : DecodedLatch) (clock issued : ℕ) (tables : Tables) → d.pc < 2 ^ 30 → tables_bits.IsFit tables → tables_bits.IsFit (trained_by (lesson f d clock issued) d.pc tables)
+pub tables-fit : (f : Fate) (d : DecodedLatch) (clock issued : ℕ) (tables : Tables) → d.pc < 2 ^ 30 → tables_bits.IsFit tables
+    → tables_bits.IsFit (trained_by (lesson f d clock issued) d.pc tables)
 tables-fit f d clock issued tables h fit = trained_by-fits (lesson f d clock issued) d.pc tables (lesson-below f d clock issued) h fit
 
 -- ---- the instruction buffer
@@ -161,14 +168,19 @@ none-fits : slot_bits.IsFit no_entry
 none-fits = (lit< tt, (lit< tt, (lit< tt, (lit< tt, tt))))
 
 packed-fits : (es : List Entry) → IsWaiting es → buffer_bits.IsFit (packed es)
-packed-fits es w = (length-packed es w.0, All-append slot_bits.IsFit es (replicate (4 - length es) no_entry) w.1 (All-replicate slot_bits.IsFit (4 - length es) no_entry none-fits))
+packed-fits es w = (
+  length-packed es w.0,
+  All-append slot_bits.IsFit es (replicate (4 - length es) no_entry) w.1
+      (All-replicate slot_bits.IsFit (4 - length es) no_entry none-fits),
+)
 
 waiting-fits : (slots : List Entry) → buffer_bits.IsFit slots → IsWaiting (entries slots)
 waiting-fits slots fit = (let l = length-entries slots in let h = fit.0 in omega (arith, l, h), All-filter (λ e. e.valid) slot_bits.IsFit slots fit.1)
 
 pub buffer-fits : (image : LoadedImage) (f : Fate) (pc : ℕ) (slots : List Entry) → IsImage image → pc < 2 ^ 30 → buffer_bits.IsFit slots
     → buffer_bits.IsFit (packed (entries_after image f pc (entries slots)))
-buffer-fits image f pc slots is h fit = packed-fits (entries_after image f pc (entries slots)) (after-fits image f pc (entries slots) is h (waiting-fits slots fit))
+buffer-fits image f pc slots is h fit =
+    packed-fits (entries_after image f pc (entries slots)) (after-fits image f pc (entries slots) is h (waiting-fits slots fit))
 
 -- ---- ID/EX
 
@@ -181,7 +193,8 @@ record IsOpSteady (op : Op) : Type 0 where
 
 op-fits : (e : Entry) (b : Bool) → slot_bits.IsFit e → IsOpSteady (if b then record (decode e.word) { code = FETCH_FAULT_CODE } else decode e.word)
 op-fits e true fit = record { code = lit< tt; rd = decode-rd e.word; rs1 = decode-rs1 e.word; rs2 = decode-rs2 e.word; imm = decode-imm e.word fit.1.1.1.0 }
-op-fits e false fit = record { code = decode-code e.word; rd = decode-rd e.word; rs1 = decode-rs1 e.word; rs2 = decode-rs2 e.word; imm = decode-imm e.word fit.1.1.1.0 }
+op-fits e false fit =
+    record { code = decode-code e.word; rd = decode-rd e.word; rs1 = decode-rs1 e.word; rs2 = decode-rs2 e.word; imm = decode-imm e.word fit.1.1.1.0 }
 
 decoded-steady : (e : Entry) (w : ResultLatch) (registers : List ℕ) → slot_bits.IsFit e → IsDecodedSteady (decoded e w registers)
 unfolding decoded
@@ -203,10 +216,14 @@ first-fits : (es : List Entry) → AreFetched es → IfSome (slice_get es 0) slo
 first-fits [] fit = tt
 first-fits (e ∷ es) fit = fit 0 e (omega arith)
 
-pub decoded_after-steady : (f : Fate) (d : DecodedLatch) (slots : List Entry) (w : ResultLatch) (registers : List ℕ) → IsDecodedSteady d → buffer_bits.IsFit slots
+pub decoded_after-steady : (f : Fate) (d : DecodedLatch) (slots : List Entry) (w : ResultLatch) (registers : List ℕ) → IsDecodedSteady d
+    → buffer_bits.IsFit slots
     → IsDecodedSteady (decoded_after f d (entries slots) w registers)
 unfolding decoded_after
-decoded_after-steady Absent d slots w registers is fit = taken-steady (slice_get (entries slots) 0) w registers (first-fits (entries slots) (waiting-fits slots fit).1)
+decoded_after-steady Absent d slots w registers is fit =
+    taken-steady (slice_get (entries slots) 0) w registers (first-fits (entries slots) (waiting-fits slots fit).1)
 decoded_after-steady Dropped d slots w registers is fit = none-steady
-decoded_after-steady Stays d slots w registers is fit = record { pc = is.pc; op = is.op; rd = is.rd; rs1 = is.rs1; rs2 = is.rs2; imm = is.imm; count = pred-below d.count is.count }
-decoded_after-steady (Goes a b) d slots w registers is fit = taken-steady (slice_get (entries slots) 0) w registers (first-fits (entries slots) (waiting-fits slots fit).1)
+decoded_after-steady Stays d slots w registers is fit =
+    record { pc = is.pc; op = is.op; rd = is.rd; rs1 = is.rs1; rs2 = is.rs2; imm = is.imm; count = pred-below d.count is.count }
+decoded_after-steady (Goes a b) d slots w registers is fit =
+    taken-steady (slice_get (entries slots) 0) w registers (first-fits (entries slots) (waiting-fits slots fit).1)

@@ -31,7 +31,8 @@ use Rattle.cyc_machine.specs.State.{State, reset}
 use Rattle.cyc_machine.proofs.PendingNext.{pending-after}
 use Rattle.cyc_machine.proofs.Sizes.CacheKept.{cache_after-bytes, cache_after-sized, contents-next, memory_after-bytes, memory_after-long, ram-bytes}
 use Rattle.cyc_machine.proofs.Sizes.Front.{buffer-fits, decoded_after-steady, npc_after-below, pc_after-below, predicted-below, tables-fit}
-use Rattle.cyc_machine.proofs.Sizes.Widths.{executed_after-steady, length-written_registers, port_after-below, result_after-rd, stores_after-length, stores_after-steady}
+use Rattle.cyc_machine.proofs.Sizes.Widths.{executed_after-steady, length-written_registers, port_after-below, result_after-rd, stores_after-length}
+use Rattle.cyc_machine.proofs.Sizes.Widths.{stores_after-steady}
 
 pub bytes-next : (s : State) → HoldsBytes s → HoldsBytes (cycle s)
 unfolding cycled
@@ -53,7 +54,8 @@ entry-below image is = go (fetch image (image.entry / 4)) refl is.entry_executab
   where
     go : (o : Option ℕ) → fetch image (image.entry / 4) ≡ o → IsSome o → image.entry / 4 < 2 ^ 30
     go (Some x) e h =
-        let inside = executable-in_ram image (4 * (image.entry / 4) + 0) (word_executable-byte image (image.entry / 4) 0 (fetch-executable image (image.entry / 4) x e) (omega arith)) in
+        let word = fetch-executable image (image.entry / 4) x e in
+        let inside = executable-in_ram image (4 * (image.entry / 4) + 0) (word_executable-byte image (image.entry / 4) 0 word (omega arith)) in
         let below = in_ram-below image (4 * (image.entry / 4) + 0) is inside in
         omega (arith, below)
     go None e h = absurd cc
@@ -69,7 +71,16 @@ machine-steady s is = record {
   npc = is.npc;
   tables = is.tables;
   buffer = is.buffer;
-  d = record { pc = is.d.1.0; op = is.d.1.1.0; rd = is.d.1.1.1.0; rs1 = is.d.1.1.1.1.0; rs2 = is.d.1.1.1.1.1.0; imm = is.d.1.1.1.1.1.1.1.1.0; count = is.d.1.1.1.1.1.1.1.1.1.0 };
+  d =
+      record {
+        pc = is.d.1.0;
+        op = is.d.1.1.0;
+        rd = is.d.1.1.1.0;
+        rs1 = is.d.1.1.1.1.0;
+        rs2 = is.d.1.1.1.1.1.0;
+        imm = is.d.1.1.1.1.1.1.1.1.0;
+        count = is.d.1.1.1.1.1.1.1.1.1.0;
+      };
   m = record { kind = is.m.1.0; rd = is.m.1.1.0; cause = is.m.1.1.1.1.1.0 };
   w_rd = is.w.0;
   registers = is.registers.0;
@@ -107,7 +118,9 @@ steady-next s is = record {
   w_rd = result_after-rd s.m (served_m s) is.m.rd;
   registers = length-written_registers s.w s.registers ∙ is.registers;
   port = port_after-below s.port s.cache _ _ is.port;
-  slots = length-packed (stores_after s.image (action_in_m s) (move s) (pending s.stores)) (stores_after-length s.image (action_in_m s) (move s) (pending s.stores) is.stores);
+  slots =
+      length-packed (stores_after s.image (action_in_m s) (move s) (pending s.stores))
+      (stores_after-length s.image (action_in_m s) (move s) (pending s.stores) is.stores);
   masks = stores_after-steady s.image (action_in_m s) (move s) s.stores is.image is.masks;
   stores = rw (pending-after s.image (action_in_m s) (move s) s.stores) (stores_after-length s.image (action_in_m s) (move s) (pending s.stores) is.stores);
   issued = counted-below (fate s) s.issued is.issued;

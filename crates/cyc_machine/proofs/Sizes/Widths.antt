@@ -1,5 +1,6 @@
 -- A cycle keeps the widths of what EX/MEM, MEM/WB, the register file, the port and the store buffer hold.
-use Rattle.std.proofs.Common.{[], ◌∷◌, ◌-◌, ◌/◌, ◌%◌, replicate, lit<, refl, inl, inr, ◌≡◌, ℕ, ◌<◌, ◌≤◌, Bool, true, false, List, ◌++◌, length, arith, length-append}
+use Rattle.std.proofs.Common.{[], ◌∷◌, ◌-◌, ◌/◌, ◌%◌, replicate, lit<, refl, inl, inr, ◌≡◌, ℕ, ◌<◌, ◌≤◌, Bool, true, false, List, ◌++◌, length, arith}
+use Rattle.std.proofs.Common.{length-append}
 use Rattle.std.specs.Prelude.{◌≢◌, ◌⊎◌, All, Option, not, ◌&&◌, nat_lt, if◌then◌else◌}
 use Rattle.std.proofs.lemmas.Bool.Decides.{nat_tests}
 use Rattle.std.proofs.Math.ListN.{length-set}
@@ -64,7 +65,8 @@ kept-steady : (goes : Bool) (m : ExecutedLatch) → IsExecutedSteady m → IsExe
 kept-steady true m is = none-steady
 kept-steady false m is = is
 
-pub executed_after-steady : (image : LoadedImage) (f : Fate) (goes : Bool) (d : DecodedLatch) (clock issued : ℕ) (m : ExecutedLatch) → d.rd < 32 → IsExecutedSteady m
+pub executed_after-steady : (image : LoadedImage) (f : Fate) (goes : Bool) (d : DecodedLatch) (clock issued : ℕ) (m : ExecutedLatch) → d.rd < 32
+    → IsExecutedSteady m
     → IsExecutedSteady (executed_after image f goes d clock issued m)
 unfolding executed_after
 executed_after-steady image (Goes a b) goes d clock issued m h is = executed-steady image d a (counted d clock issued b) h
@@ -141,12 +143,18 @@ kept_stores-steady image Waits es is = stray-steady image es is
 kept_stores-steady image Leaves es is = stray-steady image es is
 kept_stores-steady image (Fills line way) es is = stray-steady image es is
 
+halves : (x : ℕ) → (x / 2 % 2 ≡ 0) ⊎ (x / 2 % 2 ≢ 0)
+halves x = grind arith
+
+same-below : (m n : ℕ) → m ≡ n → n < 16 → m < 16
+same-below m n e h = omega (arith, e, h)
+
 mask-below : (kind : StoreKind) (x : ℕ) → lane_mask (store_size kind) x < 16
 mask-below Sb x = let k : x % 4 < 4 = omega arith in grind (arith, byte_mask_below x, byte_mask x)
-mask-below Sh x = elim (halves x) as (λ _. lane_mask 2 x < 16) [ inl low ↦ let e = low_half_mask x low in omega (arith, e) | inr high ↦ let e = high_half_mask x high in omega (arith, e) ]
-  where
-    halves : (x : ℕ) → (x / 2 % 2 ≡ 0) ⊎ (x / 2 % 2 ≢ 0)
-    halves x = grind arith
+mask-below Sh x = elim (halves x) as (λ _. lane_mask 2 x < 16) [
+  | inl low ↦ same-below (lane_mask 2 x) 3 (low_half_mask x low) (lit< tt)
+  | inr high ↦ same-below (lane_mask 2 x) 12 (high_half_mask x high) (lit< tt)
+]
 mask-below Sw x = omega (arith, word_mask x)
 
 appended-steady : (image : LoadedImage) (m : Action) (room : Bool) → IsImage image → AreSteady (appended image m room)
@@ -171,6 +179,7 @@ unfolding stores_after
 stores_after-steady image m v slots is steady =
     let kept = kept_stores-steady image v (pending slots) (All-filter is_pending IsPendingSteady slots steady) in
     let more = appended-steady image m (nat_lt (length (pending slots)) 4) is in
-    All-append IsPendingSteady (kept_stores image v (pending slots) ++ appended image m (nat_lt (length (pending slots)) 4)) (replicate (4 - length (stores_after image m v (pending slots))) no_entry)
+    All-append IsPendingSteady (kept_stores image v (pending slots) ++ appended image m (nat_lt (length (pending slots)) 4))
+    (replicate (4 - length (stores_after image m v (pending slots))) no_entry)
     (All-append IsPendingSteady (kept_stores image v (pending slots)) (appended image m (nat_lt (length (pending slots)) 4)) kept more)
     (All-replicate IsPendingSteady (4 - length (stores_after image m v (pending slots))) no_entry (lit< tt, lit< tt))

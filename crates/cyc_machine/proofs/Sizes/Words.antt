@@ -1,5 +1,6 @@
 -- A cycle keeps values within 32 bits, where the number of the cycle, which a read of the cycle counter gives, has 32 bits.
-use Rattle.std.proofs.Common.{◌≡◌, ℕ, zero, suc, ◌≤◌, sym, subst, ◌-◌, ◌*◌, ◌/◌, ◌%◌, ◌^◌, ◌<◌, Bool, true, false, List, [], ◌∷◌, ◌++◌, length, replicate, arith, lit<, refl}
+use Rattle.std.proofs.Common.{◌≡◌, ℕ, zero, suc, ◌≤◌, sym, subst, ◌-◌, ◌*◌, ◌/◌, ◌%◌, ◌^◌, ◌<◌, Bool, true, false, List, [], ◌∷◌, ◌++◌, length, replicate}
+use Rattle.std.proofs.Common.{arith, lit<, refl}
 use Rattle.std.specs.Prelude.{⊤, All, IfSome, Option, Some, None, slice_set, ◌==◌, ◌&&◌, not, nat_lt, if◌then◌else◌, slice_get, slice_index}
 use Rattle.std.proofs.lemmas.Bool.Decides.{nat_tests}
 use Rattle.std.proofs.lemmas.Nat.{mod_below}
@@ -22,6 +23,8 @@ use Rattle.rv_table.specs.declared.operation.Operation.TheVariants.{Lui, Auipc, 
 use Rattle.rv_table.specs.declared.operation.StoreKind.{StoreKind}
 use Rattle.rv_table.specs.declared.operation.StoreKind.TheVariants.{Sb, Sh, Sw}
 use Rattle.rv_table.proofs.Lanes.{byte_stored, half_stored, word_stored}
+use Rattle.rv_table.proofs.Ranges.{counter_below, loaded_below}
+use Rattle.rv_table.proofs.Results.{alu_below}
 use Rattle.pipe_latch.specs.DecodedBits as idex
 use Rattle.pipe_latch.specs.Execution.{executed}
 use Rattle.pipe_latch.specs.ExecutedBits as exmem
@@ -33,6 +36,7 @@ use Rattle.pipe_latch.specs.declared.forward.Forwarded.TheVariants.{Value, Wait}
 use Rattle.inst_buf.specs.Buffer.{entries}
 use Rattle.inst_buf.specs.Entry.{Entry as Fetched}
 use Rattle.store_buf.specs.Covers.{covered}
+use Rattle.store_buf.specs.EntryBits as store_bits
 use Rattle.store_buf.specs.Entry.{Entry, no_entry}
 use Rattle.store_buf.specs.Pending.{is_pending, packed, pending, younger}
 use Rattle.store_buf.specs.declared.cover.Cover.{Cover}
@@ -44,16 +48,17 @@ use Rattle.cyc_machine.specs.declared.port.Move.{Move}
 use Rattle.cyc_machine.specs.declared.port.Move.TheVariants.{Rests, Reads, Drains, Misses, Waits, Leaves, Fills}
 use Rattle.cyc_machine.specs.Cycle.{action_in_m, cycle, cycled, fate, move, served_m}
 use Rattle.cyc_machine.specs.Facts.{IsMachine}
-use Rattle.cyc_machine.specs.Memory.{appended, covered_value, entry_of, kept_stores, load_value, loaded_of, result_after, served, served_by, stores_after, value_read, without_stray, word_read}
-use Rattle.cyc_machine.specs.Pipeline.{counted, decoded, decoded_after, executed_after, fate_of, goes_with, held_value, operand_b, register, taken, written_registers}
-use Rattle.cyc_machine.specs.Sizes.{IsDecodedSteady, IsExecutedSteady, IsSteady}
+use Rattle.cyc_machine.specs.Memory.{appended, covered_value, entry_of, kept_stores, load_value, loaded_of, result_after, served, served_by, stores_after}
+use Rattle.cyc_machine.specs.Memory.{value_read, without_stray, word_read}
+use Rattle.cyc_machine.specs.Pipeline.{counted, decoded, decoded_after, executed_after, fate_of, goes_with, held_value, operand_b, register, taken}
+use Rattle.cyc_machine.specs.Pipeline.{written_registers}
+use Rattle.cyc_machine.specs.Sizes.{IsDecodedSteady, IsExecutedSteady, IsPendingSteady, IsSteady}
 use Rattle.cyc_machine.specs.SizesLaw.{SizesLaw}
 use Rattle.cyc_machine.specs.Run.{state_after, state_at}
 use Rattle.cyc_machine.specs.State.{State, reset}
-use Rattle.cyc_machine.proofs.RunsOn.{numbered}
+use Rattle.cyc_machine.proofs.RunsOn.{cycle-at}
 use Rattle.cyc_machine.proofs.Sizes.Flipped.{flip-keeps, in-range, made}
 use Rattle.cyc_machine.proofs.Sizes.Lasting.{contents, machine-reset, machine-steady, steady-next}
-use Rattle.cyc_machine.proofs.Sizes.Results.{alu_below, loaded_below}
 
 abbrev IsWord : ℕ → Type 0
 IsWord v = v < 2 ^ 32
@@ -111,7 +116,8 @@ judged-words ram executable _ h = tt
 
 action-words : (ram executable : ℕ → Bool) (op : Op) (pc a b : ℕ) → IsWord a → IsWord b → IsWord op.imm → AreWords (action ram executable op pc a b)
 unfolding action asked
-action-words ram executable op pc a b ha hb hi = judged-words ram executable (asked_by (operation_of op.code) op pc a b) (asked-words (operation_of op.code) op pc a b ha hb hi)
+action-words ram executable op pc a b ha hb hi =
+    judged-words ram executable (asked_by (operation_of op.code) op pc a b) (asked-words (operation_of op.code) op pc a b ha hb hi)
 
 -- ---- into EX/MEM and out of it
 
@@ -158,7 +164,8 @@ result-word (Traps cause) h = lit< tt
 operand-word : (m : Action) (w : ResultLatch) (rs held : ℕ) → AreWords m → IsWord w.value → IsWord held → IsWordForwarded (operand m w rs held)
 unfolding operand
 operand-word m w rs held h g l =
-    either-forwarded (rs == 0) (Value held) (if rs == written_register m then (if is_load m then Wait else Value (result_of m)) else (if rs == w.rd then Value w.value else Value held)) l
+    either-forwarded (rs == 0) (Value held) (if rs == written_register m then (if is_load m then Wait else Value (result_of m))
+    else (if rs == w.rd then Value w.value else Value held)) l
     (either-forwarded (rs == written_register m) (if is_load m then Wait else Value (result_of m)) (if rs == w.rd then Value w.value else Value held)
     (either-forwarded (is_load m) Wait (Value (result_of m)) tt (result-word m h))
     (either-forwarded (rs == w.rd) (Value w.value) (Value held) g l))
@@ -189,13 +196,9 @@ fate-words d npc m w goes h g a b =
     (either-fate (d.count == 0 && goes) (goes_with (operand m w d.rs1 d.a) (operand_b d m w)) Stays
     (goes-words (operand m w d.rs1 d.a) (operand_b d m w) (operand-word m w d.rs1 d.a h g a) (operand_b-word d m w h g b)) tt) tt) tt
 
-counter-word : (o : Operation) (clock count b : ℕ) → IsWord clock → IsWord count → IsWord b → IsWord (counter_by o clock count b)
-unfolding counter_by
-counter-word o clock count b h g l = grind arith
-
 counted-word : (d : DecodedLatch) (clock issued b : ℕ) → IsWord clock → IsWord issued → IsWord b → IsWord (counted d clock issued b)
 unfolding counted with_counter
-counted-word d clock issued b h g l = counter-word (operation_of d.op) clock issued b h g l
+counted-word d clock issued b h g l = counter_below (operation_of d.op) clock issued b h g l
 
 -- ---- the next latches
 
@@ -206,7 +209,8 @@ kept-words false m h = h
 executed-words : (image : LoadedImage) (d : DecodedLatch) (a b : ℕ) → IsWord a → IsWord b → IsWord d.imm → IsLatched (executed image d a b)
 unfolding executed
 executed-words image d a b ha hb hi =
-    latched-words (action (word_in_ram image) (executable image) (op_of_latch d) d.pc a b) (action-words (word_in_ram image) (executable image) (op_of_latch d) d.pc a b ha hb hi)
+    latched-words (action (word_in_ram image) (executable image) (op_of_latch d) d.pc a b)
+    (action-words (word_in_ram image) (executable image) (op_of_latch d) d.pc a b ha hb hi)
 
 executed_after-words : (image : LoadedImage) (f : Fate) (goes : Bool) (d : DecodedLatch) (clock issued : ℕ) (m : ExecutedLatch) → IsWordFate f → IsWord d.imm
     → IsWord clock → IsWord issued → IsLatched m → IsLatched (executed_after image f goes d clock issued m)
@@ -233,7 +237,8 @@ held-word w registers rs h words =
 abbrev IsDecodedWord : DecodedLatch → Type 0
 IsDecodedWord d = IsWord d.a × IsWord d.b
 
-taken-words : (o : Option Fetched) (w : ResultLatch) (registers : List ℕ) → IsWord w.value → All (λ v. v < 2 ^ 32) registers → IsDecodedWord (taken o w registers)
+taken-words : (o : Option Fetched) (w : ResultLatch) (registers : List ℕ) → IsWord w.value → All (λ v. v < 2 ^ 32) registers
+    → IsDecodedWord (taken o w registers)
 unfolding decoded
 taken-words (Some e) w registers h words = (held-word w registers _ h words, held-word w registers _ h words)
 taken-words None w registers h words = (lit< tt, lit< tt)
@@ -297,7 +302,8 @@ result_after-word m s h = go s.goes
     go true = h
     go false = lit< tt
 
-registers-words : (w : ResultLatch) (registers : List ℕ) → IsWord w.value → All (λ v. v < 2 ^ 32) registers → All (λ v. v < 2 ^ 32) (written_registers w registers)
+registers-words : (w : ResultLatch) (registers : List ℕ) → IsWord w.value → All (λ v. v < 2 ^ 32) registers
+    → All (λ v. v < 2 ^ 32) (written_registers w registers)
 unfolding written_registers
 registers-words w registers h words = go (w.rd == 0)
   where
@@ -350,12 +356,14 @@ appended-words image (Puts value) room h = All-nil (λ e. e.value < 2 ^ 32)
 appended-words image (Exits value) room h = All-nil (λ e. e.value < 2 ^ 32)
 appended-words image (Traps cause) room h = All-nil (λ e. e.value < 2 ^ 32)
 
-stores_after-words : (image : LoadedImage) (m : Action) (v : Move) (slots : List Entry) → AreWords m → AreStored slots → AreStored (packed (stores_after image m v (pending slots)))
+stores_after-words : (image : LoadedImage) (m : Action) (v : Move) (slots : List Entry) → AreWords m → AreStored slots
+    → AreStored (packed (stores_after image m v (pending slots)))
 unfolding stores_after
 stores_after-words image m v slots h words =
     let kept = kept_stores-words image v (pending slots) (All-filter is_pending (λ e. e.value < 2 ^ 32) slots words) in
     let more = appended-words image m (nat_lt (length (pending slots)) 4) h in
-    All-append (λ e. e.value < 2 ^ 32) (kept_stores image v (pending slots) ++ appended image m (nat_lt (length (pending slots)) 4)) (replicate (4 - length (stores_after image m v (pending slots))) no_entry)
+    All-append (λ e. e.value < 2 ^ 32) (kept_stores image v (pending slots) ++ appended image m (nat_lt (length (pending slots)) 4))
+    (replicate (4 - length (stores_after image m v (pending slots))) no_entry)
     (All-append (λ e. e.value < 2 ^ 32) (kept_stores image v (pending slots)) (appended image m (nat_lt (length (pending slots)) 4)) kept more)
     (All-replicate (λ e. e.value < 2 ^ 32) (4 - length (stores_after image m v (pending slots))) no_entry (lit< tt))
 
@@ -372,6 +380,12 @@ decoded-fits d is words =
 executed-fits : (m : ExecutedLatch) → IsExecutedSteady m → IsLatched m → exmem.IsFit m
 executed-fits m is words = (flag-below m.valid, (is.kind, (is.rd, (words.0, (words.1, (is.cause, tt))))))
 
+stored-fits : (e : Entry) → IsPendingSteady e → IsWord e.value → store_bits.IsFit e
+stored-fits e is word = (is.0, (is.1, (word, tt)))
+
+values : (s : State) → IsMachine s → AreStored s.stores
+values s is = λ k e l. (is.stores.1 k e l).1.1.0
+
 pub machine-next : (s : State) → IsMachine s → s.cycle < 2 ^ 32 → IsMachine (cycle s)
 unfolding cycled
 machine-next s is small =
@@ -385,23 +399,23 @@ machine-next s is small =
     made (cycle s) next.image next.memory next.bytes.memory next.issued (contents (cycle s) next) next.pc next.npc next.tables next.buffer
     (decoded-fits (cycle s).d next.d (decoded_after-words (fate s) s.d (entries s.buffer) s.w s.registers value is.registers.1 (a, b)))
     (executed-fits (cycle s).m next.m
-    (executed_after-words s.image (fate s) (served_m s).goes s.d s.cycle s.issued s.m fates steady.d.imm small is.issued (is.m.1.1.1.0, is.m.1.1.1.1.0)))
-    (next.w_rd, (result_after-word (action_in_m s) (served_m s) (served-word s.image (action_in_m s) (pending s.stores) (word_read (move s) s.cache) words), tt))
+    (executed_after-words s.image (fate s) (served_m s).goes s.d s.cycle s.issued s.m fates steady.d.imm small is.issued (is.m.1.1.1.0, is.m.1.1.1.1.0))) (
+      next.w_rd,
+      (
+        result_after-word (action_in_m s) (served_m s) (served-word s.image (action_in_m s) (pending s.stores) (word_read (move s) s.cache) words),
+        tt,
+      ),
+    )
     (next.registers, registers-words s.w s.registers value is.registers.1)
-    (next.slots, λ k e l. let fit = next.masks k e l in (fit.0, (fit.1, (stores_after-words s.image (action_in_m s) (move s) s.stores words (λ k e l. (is.stores.1 k e l).1.1.0) k e l, tt))))
+    (next.slots, λ k e l. stored-fits _ (next.masks k e l) (stores_after-words s.image (action_in_m s) (move s) s.stores words (values s is) k e l))
     (next.port, (flag-below (cycle s).port.owner, tt))
-
-first : (image : LoadedImage) (shape : Shape) → (reset image shape).cycle ≡ 0
-unfolding reset
-first image shape = refl
 
 pub machine-at : (image : LoadedImage) (shape : Shape) (t : ℕ) → IsImage image → IsShape shape → t ≤ 2 ^ 32 → IsMachine (state_at image shape t)
 unfolding state_after
 machine-at image shape zero is fits h = machine-reset image shape is fits
 machine-at image shape (suc t) is fits h =
-    let number = numbered t (reset image shape) in
-    let zero-first = first image shape in
-    machine-next (state_at image shape t) (machine-at image shape t is fits (omega (arith, h))) (omega (arith, h, number, zero-first))
+    let number = cycle-at image shape t in
+    machine-next (state_at image shape t) (machine-at image shape t is fits (omega (arith, h))) (omega (arith, h, number))
 
 pub sizes-law : SizesLaw
 sizes-law = record {
