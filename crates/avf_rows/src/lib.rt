@@ -2,7 +2,7 @@
 #![tactic(auto)]
 
 #[cfg(test)]
-mod faults;
+mod fault_rows;
 #[cfg(test)]
 mod images;
 #[cfg(test)]

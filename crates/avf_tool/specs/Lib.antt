@@ -3,7 +3,6 @@ pub mod Ends
 pub mod Jobs
 pub mod Numbers
 pub mod Programs
-pub mod Runs
+pub mod Stages
 pub mod Texts
-pub mod Traces
 pub mod Words

@@ -1,7 +1,7 @@
 -- The texts of the short commands.
-use Rattle.std.specs.Prelude.{ℕ, Option, Some, None, List, [], ◌∷◌, codes, count_by, decimal, length}
-use Rattle.hex.specs.Hex.{encode_lower}
+use Rattle.std.specs.Prelude.{ℕ, List, [], ◌∷◌, codes, count_by, decimal, length}
 use Rattle.std.specs.List.{concat}
+use Rattle.hex.specs.Hex.{encode_lower}
 use Rattle.avf_base.specs.declared.end.End.{End}
 use Rattle.avf_base.specs.declared.end.End.TheVariants.{Exit, Trap}
 use Rattle.rv_isa.specs.declared.effect.Retired.{Retired}
@@ -9,9 +9,6 @@ use Rattle.avf_tool.specs.declared.texts.DeadCounts.{DeadCounts}
 use Rattle.dead_class.specs.Classes.{classes_of, is_class}
 use Rattle.dead_class.specs.declared.class.DeadClass.{DeadClass}
 use Rattle.dead_class.specs.declared.class.DeadClass.TheVariants.{Needed, Nop, FddReg, TddReg, FddMem, TddMem}
-use Rattle.run_log.specs.Run.{RecordedRun}
-use Rattle.avf_tool.specs.Runs.{EndedRun}
-use Rattle.avf_tool.specs.Traces.{ProgramRun}
 
 -- the bytes that a program put, as pairs of lower-case hexadecimal digits
 abbrev pub output_text : List ℕ → List ℕ
@@ -32,18 +29,6 @@ run_text output end instructions = concat (
     codes "output " ∷ output_text output
     ∷ codes "\nend " ∷ end_word end ∷ codes " " ∷ decimal (end_number end)
     ∷ codes "\ninstructions " ∷ decimal instructions ∷ codes "\n" ∷ [])
-
-abbrev pub with_end : Option End → (End → List ℕ) → List ℕ
-with_end (Some end) text = text end
-with_end None text = []
-
--- the same of a program's run; one that hasn't ended has no text
-abbrev pub program_text : ProgramRun → List ℕ
-program_text program = with_end program.end (λ end. run_text program.output end (length program.entries))
-
--- what of a record is the machine's run
-abbrev pub shown : RecordedRun → EndedRun
-shown r = record { cycles = r.cycles; clocks = r.clocks }
 
 abbrev pub count_of : DeadClass → List DeadClass → ℕ
 count_of class classes = count_by (is_class class) classes
@@ -80,6 +65,6 @@ memory_lines counts = concat (
 abbrev pub dead_text : DeadCounts → List ℕ
 dead_text counts = concat (needed_lines counts ∷ register_lines counts ∷ memory_lines counts ∷ [])
 
--- the same of a trace's instructions
+-- the same of these instructions
 abbrev pub deadness_text : List Retired → List ℕ
 deadness_text entries = dead_text (dead_counts (length entries) (classes_of entries))

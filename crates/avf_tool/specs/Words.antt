@@ -4,40 +4,55 @@ use Rattle.std.specs.Option.{option_and_then}
 use Rattle.std.specs.declared.alloc.Global.{Global}
 use Rattle.bit_field.specs.Shapes.{IsShape, plain}
 use Rattle.bit_field.specs.declared.shapes.Shape.{Shape}
+use Rattle.run_log.specs.declared.recording.TheConstants.{LONGEST_RUN}
 use Rattle.avf_tool.specs.Numbers.{number}
+use Rattle.avf_tool.specs.declared.command.Task.{Task}
+use Rattle.avf_tool.specs.declared.command.Task.TheVariants.{Run, Dead}
 
--- an image by its name, how many cycles its run may take, and the machine that it runs on
-pub record ImageRun : Type 0 where
+-- what is told of the run of an image: its file's name, the machine, and how many cycles the run may take
+pub record ImageJob : Type 0 where
+  pub shape : Shape
   pub image : List ℕ
   pub budget : ℕ
-  pub shape : Shape
+  pub task : Task
 
--- a command with its arguments
+-- A command with its arguments. One that isn't about the run of an image in a file has a case of its own here.
 pub data Job : Type 0 where
-  Run : ImageRun → Job
-  Dead : ImageRun → Job
+  OnImage : ImageJob → Job
 
--- IMAGE BUDGET: any word that isn't empty, and a number from 1 to 1,000,000
-abbrev pub image_run : Shape → List ℕ → List ℕ → Option ImageRun
-image_run shape image budget =
-    if nat_lt 0 (length image) then option_map (λ n. record { image = image; budget = n; shape = shape }) (number 1 1000000 budget) else None
+-- a task by its name, and what the words behind IMAGE and BUDGET make of it
+pub record TaskWords : Type 0 where
+  pub name : List ℕ
+  pub reads : List (List ℕ) → Option Task
 
--- `run IMAGE BUDGET`
-abbrev pub run_job : Shape → List (List ℕ) → Option Job
-run_job shape (image ∷ budget ∷ []) = option_map (λ r. Run r) (image_run shape image budget)
-run_job shape args = None
+-- a task that has no words of its own
+abbrev pub alone : Task → List (List ℕ) → Option Task
+alone task [] = Some task
+alone task (word ∷ words) = None
 
--- `dead IMAGE BUDGET`
-abbrev pub dead_job : Shape → List (List ℕ) → Option Job
-dead_job shape (image ∷ budget ∷ []) = option_map (λ r. Dead r) (image_run shape image budget)
-dead_job shape args = None
+-- the commands `NAME IMAGE BUDGET ..`, one line each
+abbrev pub tasks : List TaskWords
+tasks =
+    record { name = codes "run"; reads = alone Run }
+    ∷ record { name = codes "dead"; reads = alone Dead }
+    ∷ []
+
+-- what the first of these tasks with a name makes of the words
+abbrev pub task_in : List TaskWords → List ℕ → List (List ℕ) → Option Task
+task_in [] name words = None
+task_in (task ∷ rest) name words = if bytes_eq name task.name then task.reads words else task_in rest name words
+
+-- IMAGE BUDGET: any word that isn't empty, and a number of cycles that a run may take
+abbrev pub image_job : Shape → List ℕ → List ℕ → Task → Option Job
+image_job shape image budget task =
+    if nat_lt 0 (length image)
+    then option_map (λ n. OnImage (record { shape = shape; image = image; budget = n; task = task })) (number 1 LONGEST_RUN budget)
+    else None
 
 -- a command on a machine of a shape
 abbrev pub command_on : Shape → List (List ℕ) → Option Job
-command_on shape (name ∷ args) =
-    if bytes_eq name (codes "run") then run_job shape args else
-    (if bytes_eq name (codes "dead") then dead_job shape args else None)
-command_on shape [] = None
+command_on shape (name ∷ image ∷ budget ∷ words) = option_and_then (image_job shape image budget) (task_in tasks name words)
+command_on shape _ = None
 
 -- SETS: 16, 32, 64 or 128
 abbrev pub known_sets : ℕ → Option ℕ
@@ -58,9 +73,10 @@ shape_words mib sets ways =
 -- `with MIB SETS WAYS` and then a command
 abbrev pub with_job : List (List ℕ) → Option Job
 with_job (mib ∷ sets ∷ ways ∷ words) = option_and_then (λ shape. command_on shape words) (shape_words mib sets ways)
-with_job args = None
+with_job _ = None
 
--- the command that these words are, or none; the machine has the plain shape unless `with` names another
+-- The command that these words are, or none; the machine has the plain shape unless `with` names another. A command that may not
+-- stand behind `with` has a case of its own here.
 abbrev pub command_of : List (List ℕ) → Option Job
 command_of (name ∷ args) =
     if bytes_eq name (codes "with") then with_job args else command_on plain (name ∷ args)
@@ -72,15 +88,13 @@ texts words = map string_bytes words
 
 -- what a command reads, where that is told
 abbrev pub told_to : Job → (List ℕ → Option (List ℕ)) → Option (List ℕ)
-told_to (Run r) holds = holds r.image
-told_to (Dead r) holds = holds r.image
+told_to (OnImage job) holds = holds job.image
 
 -- What a machine can run: the cycles and the shape are in their ranges.
-pub record IsRunnable (run : ImageRun) : Type 0 where
-  pub least : 1 ≤ run.budget
-  pub most : run.budget ≤ 1000000
-  pub shape : IsShape run.shape
+pub record IsRunnable (job : ImageJob) : Type 0 where
+  pub least : 1 ≤ job.budget
+  pub most : job.budget ≤ LONGEST_RUN
+  pub shape : IsShape job.shape
 
 abbrev pub IsDoable : Job → Type 0
-IsDoable (Run r) = IsRunnable r
-IsDoable (Dead r) = IsRunnable r
+IsDoable (OnImage job) = IsRunnable job

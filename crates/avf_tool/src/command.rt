@@ -2,74 +2,69 @@
 ghost use Rattle.std.specs.Prelude.{◌≡◌, MatchOption, IfSome, Some, None};
 ghost use Rattle.bit_field.specs.Shapes.{IsShape};
 ghost use Rattle.avf_tool.specs.Words as asked;
-ghost use Rattle.avf_tool.specs.Words.{IsDoable, IsRunnable, command_of, command_on, dead_job, run_job, texts, with_job};
-ghost use Rattle.avf_tool.specs.Jobs.{image_run_of, job_of};
+ghost use Rattle.avf_tool.specs.Words.{IsDoable, command_of, command_on, task_in, tasks, texts, with_job};
+ghost use Rattle.avf_tool.specs.Jobs.{job_of};
 
 use crate::numbers::number;
 use crate::shape::shape;
 use bit_field::{Shape, plain_shape};
+use run_log::LONGEST_RUN;
 
-const LONGEST_RUN: u64 = 1_000_000;
+/// What a command tells of the run of an image.
+#[derive(Clone, Copy, Debug, PartialEq, Eq)]
+pub enum Task {
+    /// What the program put, how it ended, and how many instructions it had.
+    Run,
+    /// How many of its instructions are of each class.
+    Dead,
+}
 
-/// An image by its name, how many cycles its run may take, and the shape of the machine that it runs on.
+/// A command with its arguments: the machine's shape, the name of the file that has the image, how many cycles the run may
+/// take, and what is told of it.
 #[derive(Clone, Copy)]
-pub struct ImageRun<'a> {
+pub struct Command<'a> {
+    pub shape: Shape,
     pub image: &'a str,
     pub budget: u32,
-    pub shape: Shape,
+    pub task: Task,
 }
 
-/// What the words ask for.
-#[derive(Clone, Copy)]
-pub enum Command<'a> {
-    /// `run IMAGE BUDGET`
-    Run(ImageRun<'a>),
-    /// `dead IMAGE BUDGET`
-    Dead(ImageRun<'a>),
+// A task that has no words of its own.
+fn alone(words: &[String], task: Task) -> Option<Task>
+    ensures { result ≡ asked.alone task (texts words.now) }
+{
+    match words {
+        [] => Some(task),
+        [_, ..] => None,
+    }
 }
 
-fn image_run<'a>(shape: Shape, image: &'a str, budget: &str) -> Option<ImageRun<'a>>
+// The task of this name, with the words behind IMAGE and BUDGET. One line each.
+fn task_named(name: &str, words: &[String]) -> Option<Task>
+    ensures { result ≡ task_in tasks name.now (texts words.now) }
+{
+    match name {
+        "run" => alone(words, Task::Run),
+        "dead" => alone(words, Task::Dead),
+        _ => None,
+    }
+}
+
+fn image_command<'a>(shape: Shape, image: &'a str, budget: &str, task: Task) -> Option<Command<'a>>
     requires { IsShape shape }
-    ensures is { MatchOption result (asked.image_run shape image.now budget.now ≡ None) (λ r. asked.image_run shape image.now budget.now ≡ Some (image_run_of r)) }
-    ensures runs { IfSome result (λ r. IsRunnable (image_run_of r)) }
+    ensures is { MatchOption result (asked.image_job shape image.now budget.now task ≡ None) (λ c. asked.image_job shape image.now budget.now task ≡ Some (job_of c)) }
+    ensures does { IfSome result (λ c. IsDoable (job_of c)) }
 {
     if image.is_empty() {
         return None;
     }
-    let budget = number(budget, 1, LONGEST_RUN)?;
-    Some(ImageRun {
+    let budget = number(budget, 1, u64::from(LONGEST_RUN))?;
+    Some(Command {
+        shape,
         image,
         budget: budget as u32,
-        shape,
+        task,
     })
-}
-
-fn run_command(shape: Shape, args: &[String]) -> Option<Command<'_>>
-    requires { IsShape shape }
-    ensures is { MatchOption result (run_job shape (texts args.now) ≡ None) (λ c. run_job shape (texts args.now) ≡ Some (job_of c)) }
-    ensures does { IfSome result (λ c. IsDoable (job_of c)) }
-{
-    match args {
-        [image, budget] => {
-            let run = image_run(shape, image.as_str(), budget.as_str())?;
-            Some(Command::Run(run))
-        }
-        _ => None,
-    }
-}
-
-fn dead_command(shape: Shape, args: &[String]) -> Option<Command<'_>>
-    requires { IsShape shape }
-    ensures is { MatchOption result (dead_job shape (texts args.now) ≡ None) (λ c. dead_job shape (texts args.now) ≡ Some (job_of c)) }
-    ensures does { IfSome result (λ c. IsDoable (job_of c)) }
-{
-    match args {
-        [image, budget] => {
-            let run = image_run(shape, image.as_str(), budget.as_str())?;
-            Some(Command::Dead(run))
-        }
-        _ => None,
-    }
 }
 
 // The command that these words are, on a machine of this shape.
@@ -79,16 +74,11 @@ fn command_on(shape: Shape, words: &[String]) -> Option<Command<'_>>
     ensures does { IfSome result (λ c. IsDoable (job_of c)) }
 {
     match words {
-        [name, args @ ..] => {
-            if name.as_str() == "run" {
-                run_command(shape, args)
-            } else if name.as_str() == "dead" {
-                dead_command(shape, args)
-            } else {
-                None
-            }
+        [name, image, budget, words @ ..] => {
+            let task = task_named(name.as_str(), words)?;
+            image_command(shape, image.as_str(), budget.as_str(), task)
         }
-        [] => None,
+        _ => None,
     }
 }
 

@@ -1,33 +1,27 @@
 // What each command answers.
 ghost use Rattle.std.specs.Prelude.{◌≡◌, ◌≤◌, List, ℕ, length};
-ghost use Rattle.avf_tool.specs.Answers.{Answers, IsDeadText, IsText, dead_on, image_limit, on_image, run_on};
-ghost use Rattle.avf_tool.specs.Jobs.{image_run_of, job_of};
-ghost use Rattle.avf_tool.specs.Words.{IsDoable, IsRunnable, told_to};
+ghost use Rattle.avf_tool.specs.Answers.{answer, task_answer};
+ghost use Rattle.avf_tool.specs.Jobs.{job_of};
+ghost use Rattle.avf_tool.specs.Programs.{IsProgram};
+ghost use Rattle.avf_tool.specs.Stages.{Answers, IsDeadText, IsText};
+ghost use Rattle.avf_tool.specs.Words.{IsDoable, told_to};
 
-use crate::command::{Command, ImageRun};
-use crate::stages::{load_image, read_image, run_image, trace_image};
+use crate::command::{Command, Task};
+use crate::stages::{IMAGE_LIMIT, load_image, read_image, run_image, trace_run};
 use crate::texts::{dead_counts, dead_text, run_text};
 use avf_base::{Refusal, Shelf, Steps};
 use dead_class::classify;
 use need_pass::needs;
+use run_log::Recorded;
 use rv_isa::Trace;
 use std::alloc::Global;
 use std::sync::ledger::Ledger;
 
-// `run` on an image of at most 16,777,216 bytes.
-fn run<L: Ledger>(
-    alloc: Global,
-    contents: &[u8],
-    asked: &ImageRun<'_>,
-    steps: &mut Steps<L>,
-) -> Result<Vec<u8>, Refusal>
-    requires size { length contents.now ≤ image_limit }
-    requires runs { IsRunnable (image_run_of asked.now) }
-    ensures { IsText (on_image asked.now.shape contents.now (run_on asked.now.shape asked.now.budget)) result }
+// What the program put, how it ended, and how many instructions it had.
+fn run_answer(alloc: Global, run: &Recorded<'_>) -> Result<Vec<u8>, Refusal>
+    ensures { IsText (task_answer Task.Run run.now) result }
 {
-    let image = load_image(alloc, contents, &asked.shape)?;
-    let ended = run_image(alloc, &image, &asked.shape, asked.budget, steps)?;
-    let text = run_text(alloc, &ended)?;
+    let text = run_text(alloc, run)?;
     Ok(text.into_bytes())
 }
 
@@ -41,22 +35,50 @@ fn dead_of(alloc: Global, trace: &Trace) -> Result<Vec<u8>, Refusal>
     Ok(text.into_bytes())
 }
 
-// `dead` on an image of at most 16,777,216 bytes.
-fn dead<L: Ledger, M: Ledger>(
+// How many instructions are of each class.
+fn dead_answer<M: Ledger>(
     alloc: Global,
+    run: &Recorded<'_>,
+    applies: &mut Steps<M>,
+) -> Result<Vec<u8>, Refusal>
+    requires { IsProgram run.now }
+    ensures { IsText (task_answer Task.Dead run.now) result }
+{
+    let trace = trace_run(alloc, run, applies)?;
+    dead_of(alloc, &trace)
+}
+
+// What is told of a run, one line a task.
+fn task_answer<M: Ledger>(
+    alloc: Global,
+    task: Task,
+    run: &Recorded<'_>,
+    applies: &mut Steps<M>,
+) -> Result<Vec<u8>, Refusal>
+    requires { IsProgram run.now }
+    ensures { IsText (task_answer task run.now) result }
+{
+    match task {
+        Task::Run => run_answer(alloc, run),
+        Task::Dead => dead_answer(alloc, run, applies),
+    }
+}
+
+// What a command answers for the contents of its file, of at most `IMAGE_LIMIT` bytes.
+fn answer<L: Ledger, M: Ledger>(
+    alloc: Global,
+    command: &Command<'_>,
     contents: &[u8],
-    asked: &ImageRun<'_>,
     steps: &mut Steps<L>,
     applies: &mut Steps<M>,
 ) -> Result<Vec<u8>, Refusal>
-    requires size { length contents.now ≤ image_limit }
-    requires runs { IsRunnable (image_run_of asked.now) }
-    ensures { IsText (on_image asked.now.shape contents.now (dead_on asked.now.shape asked.now.budget)) result }
+    requires size { length contents.now ≤ IMAGE_LIMIT }
+    requires does { IsDoable (job_of command.now) }
+    ensures { IsText (answer (job_of command.now) contents.now) result }
 {
-    let image = load_image(alloc, contents, &asked.shape)?;
-    let ended = run_image(alloc, &image, &asked.shape, asked.budget, steps)?;
-    let trace = trace_image(alloc, &image, ended.clocks(), ended.instructions(), applies)?;
-    dead_of(alloc, &trace)
+    let image = load_image(alloc, contents, &command.shape)?;
+    let recorded = run_image(alloc, &image, &command.shape, command.budget, steps)?;
+    task_answer(alloc, command.task, &recorded, applies)
 }
 
 /// Performs a command: its text, or why there is none.
@@ -72,14 +94,6 @@ pub fn perform<H: Shelf, L: Ledger, M: Ledger>(
     ensures keeps { (n : List ℕ) → H.holds shelf.new n ≡ H.holds shelf.old n }
     ensures later { H.faults shelf.old ≤ H.faults shelf.new }
 {
-    match command {
-        Command::Run(asked) => {
-            let contents = read_image(alloc, shelf, asked.image)?;
-            run(alloc, &contents, asked, steps)
-        }
-        Command::Dead(asked) => {
-            let contents = read_image(alloc, shelf, asked.image)?;
-            dead(alloc, &contents, asked, steps, applies)
-        }
-    }
+    let contents = read_image(alloc, shelf, command.image)?;
+    answer(alloc, command, &contents, steps, applies)
 }

@@ -1,21 +1,25 @@
 // What the commands have in common: a file is read, an image is loaded, and it runs.
-ghost use Rattle.std.specs.Prelude.{◌≡◌, ◌≢◌, ◌≤◌, List, ℕ, length, IfOk, None};
+ghost use Rattle.std.specs.Prelude.{◌≡◌, ◌≤◌, List, ℕ, length, IfOk};
 ghost use Rattle.avf_base.specs.Refusals.{ByContents, cause_of};
 ghost use Rattle.avf_base.specs.declared.refusal.Refusal.TheVariants.{BadImage};
 ghost use Rattle.bit_field.specs.Shapes.{IsShape};
-ghost use Rattle.rv_isa.specs.Runs.{trace_at};
-ghost use Rattle.avf_tool.specs.Answers.{IsLoaded, IsRead, Ran, Traced, image_limit, ram_size};
+ghost use Rattle.avf_tool.specs.Answers.{ram_size};
+ghost use Rattle.avf_tool.specs.Programs.{IsProgram};
+ghost use Rattle.avf_tool.specs.Stages.{IsLoaded, IsRead, Ran, Traced};
 
 use avf_base::{ReadError, Refusal, Shelf, Steps, read_file};
 use bit_field::Shape;
 use elf_load::{Image, LoadError, load};
-use run_log::{RecordError, Recorded, record_shaped};
+use run_log::{LONGEST_RUN, RecordError, Recorded, record_shaped};
 use rv_isa::{IsaError, Trace, run_clocked};
 use std::alloc::Global;
 use std::sync::ledger::Ledger;
 
-// The greatest length of an image, in bytes.
-const IMAGE_LIMIT: u32 = 16_777_216;
+/// The greatest length of an image, in bytes.
+pub const IMAGE_LIMIT: u32 = 16_777_216;
+
+/// Why a longer image is refused, as the number of a bad image.
+pub const TOO_LONG: u8 = 13;
 
 // Bytes of a MiB.
 const MIB: u32 = 1_048_576;
@@ -41,13 +45,13 @@ fn read_limited<H: Shelf>(
     }
 }
 
-/// The bytes of an image. One of more than 16,777,216 bytes is bad image 13.
+/// The bytes of an image. One of more than `IMAGE_LIMIT` bytes is refused as `TOO_LONG`.
 pub fn read_image<H: Shelf>(alloc: Global, shelf: &mut H, name: &str) -> Result<Vec<u8>, Refusal>
-    ensures read { IsRead (BadImage 13) image_limit (H.holds shelf.old name.now) (H.faults shelf.old) (H.faults shelf.new) result }
+    ensures read { IsRead (BadImage TOO_LONG) IMAGE_LIMIT (H.holds shelf.old name.now) (H.faults shelf.old) (H.faults shelf.new) result }
     ensures keeps { (n : List ℕ) → H.holds shelf.new n ≡ H.holds shelf.old n }
     ensures later { H.faults shelf.old ≤ H.faults shelf.new }
 {
-    read_limited(alloc, shelf, name, IMAGE_LIMIT, Refusal::BadImage(13))
+    read_limited(alloc, shelf, name, IMAGE_LIMIT, Refusal::BadImage(TOO_LONG))
 }
 
 /// The image that a file's bytes mean on a machine of this shape, or the first reason to refuse them.
@@ -64,7 +68,7 @@ pub fn load_image(alloc: Global, contents: &[u8], shape: &Shape) -> Result<Image
     }
 }
 
-/// The machine's run on an image in at most `budget` cycles, which is the instruction set's run.
+/// The machine's run on an image, where it ends in at most `budget` cycles. It is the instruction set's run.
 #[tactic(auto, using(crate::proofs::Runs::ran, crate::proofs::Runs::not_ran))]
 pub fn run_image<'i, L: Ledger>(
     alloc: Global,
@@ -76,7 +80,7 @@ pub fn run_image<'i, L: Ledger>(
     requires shape { IsShape shape.now }
     requires ram { length image.now.ram ≡ ram_size shape.now }
     requires least { 1 ≤ budget }
-    requires most { budget ≤ 1000000 }
+    requires most { budget ≤ LONGEST_RUN }
     ensures { Ran shape.now image.now budget result }
 {
     match record_shaped(alloc, image, shape, budget, steps) {
@@ -86,18 +90,23 @@ pub fn run_image<'i, L: Ledger>(
     }
 }
 
-/// The trace of an image with these clock values, which ends in at most `limit` instructions.
-pub fn trace_image<M: Ledger>(
+/// The trace of a recorded run: the instruction set's run with the recorded clock values.
+#[tactic(auto, using(crate::proofs::Traces::ends))]
+pub fn trace_run<M: Ledger>(
     alloc: Global,
-    image: &Image,
-    clocks: &[u32],
-    limit: u32,
+    run: &Recorded<'_>,
     applies: &mut Steps<M>,
 ) -> Result<Trace, Refusal>
-    requires { (trace_at image.now clocks.now limit).stop ≢ None }
-    ensures { Traced image.now clocks.now limit result }
+    requires { IsProgram run.now }
+    ensures { Traced run.now result }
 {
-    match run_clocked(alloc, image, limit, clocks, applies) {
+    match run_clocked(
+        alloc,
+        run.image(),
+        run.instructions(),
+        run.clocks(),
+        applies,
+    ) {
         Ok(trace) => Ok(trace),
         Err(IsaError::NoEnd) => unreachable!(),
         Err(IsaError::OutOfMemory) => Err(Refusal::OutOfMemory),

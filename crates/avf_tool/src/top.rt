@@ -2,7 +2,7 @@
 ghost use Rattle.std.specs.Prelude.{◌≡◌, ◌⊎◌, List, ℕ, IfOk, string_bytes};
 ghost use Rattle.avf_base.specs.Refusals.{line_of};
 ghost use Rattle.avf_tool.specs.Ends.{ByStatus, Ends, MayTell, Serves, TookLine, faults_of, use_of};
-ghost use Rattle.avf_tool.specs.Programs.{ProgramsEnd};
+ghost use Rattle.avf_tool.specs.Programs.{ProgramLaw};
 ghost use Rattle.avf_tool.specs.Words.{command_of, texts};
 
 use crate::command::read_words;
@@ -123,7 +123,7 @@ pub fn run_tool<H: Shelf, O: Sink, E: Sink, L: Ledger, M: Ledger>(
     ensures by_status { ByStatus (command_of (texts words.now)) (H.holds shelf.old) (faults_of H.faults shelf.old shelf.new)
         (use_of O.taken O.faults out.old out.new) (use_of E.taken E.faults err.old err.new) result }
     ensures keeps { (n : List ℕ) → H.holds shelf.new n ≡ H.holds shelf.old n }
-    ensures programs { ProgramsEnd }
+    ensures programs { ProgramLaw }
 {
     end(alloc, words, shelf, out, err, steps, applies)
 }

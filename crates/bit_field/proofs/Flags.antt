@@ -2,10 +2,10 @@
 use Rattle.std.proofs.Common.{◌≡◌, ℕ, ◌-◌, ◌<◌, Bool, true, false, List, length, get_or, not, refl, sym, ◌∙◌, ap, arith}
 use Rattle.std.proofs.Math.ListN.{set}
 use Rattle.std.proofs.lemmas.List.{length-set, get_or-set_same, get_or-set_other, set-set, set-get_or, ext_get_or}
-use Rattle.bit_field.specs.Fields.{number_of}
 use Rattle.bit_field.specs.Arrays.{bit_of_flags, flip_flag}
 use Rattle.bit_field.specs.Laws.{FlipLaws}
-use Rattle.bit_field.proofs.Rows.{is_one, is_one-number_of}
+use Rattle.bit_field.specs.Layouts.{number_of}
+use Rattle.bit_field.proofs.LayoutLaws.{number_of-same}
 
 number_of_is_bit : (b : Bool) → number_of b < 2
 number_of_is_bit true = omega arith
@@ -30,7 +30,7 @@ flags_restore xs k l =
     ∙ set-get_or xs k false
 
 flags_same : (xs ys : List Bool) → length xs ≡ length ys → ((k : ℕ) → k < length xs → bit_of_flags xs k ≡ bit_of_flags ys k) → xs ≡ ys
-flags_same xs ys e bits = ext_get_or false xs ys e (λ k l. sym (is_one-number_of _) ∙ ap is_one (bits k l) ∙ is_one-number_of _)
+flags_same xs ys e bits = ext_get_or false xs ys e (λ k l. number_of-same _ _ (bits k l))
 
 -- a list of any length
 pub laws_of_flags : FlipLaws (λ (xs : List Bool). Unit {0}) (λ xs. length xs) bit_of_flags flip_flag

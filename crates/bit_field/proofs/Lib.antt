@@ -3,5 +3,6 @@ pub mod Bits
 pub mod CacheShape
 pub mod Flags
 pub mod Highest
+pub mod LayoutLaws
+pub mod Located
 pub mod Low
-pub mod Rows

@@ -2,7 +2,7 @@
 use Rattle.std.specs.Prelude.{◌≡◌, ℕ, ◌/◌, ◌%◌, Bool, false, not, List, length}
 use Rattle.std.specs.Prelude.{slice_index_or, slice_set}
 use Rattle.std.specs.List.{All}
-use Rattle.bit_field.specs.Fields.{number_of}
+use Rattle.bit_field.specs.Layouts.{number_of}
 
 -- bit k, by the bits of an element; d is any element, and never read where the list has an element for bit k
 abbrev pub bit_of_array : {A : Type 0} → ℕ → A → (A → ℕ → ℕ) → List A → ℕ → ℕ

@@ -1,6 +1,6 @@
 pub mod Arrays
-pub mod Fields
 pub mod Lanes
 pub mod Laws
+pub mod Layouts
 pub mod Names
 pub mod Shapes

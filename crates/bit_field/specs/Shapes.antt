@@ -5,6 +5,7 @@ use Rattle.bit_field.specs.declared.places.Structure.{Structure}
 use Rattle.bit_field.specs.declared.places.Structure.TheVariants.{Pc, Npc, Bht, Btb, Ib, IdEx, ExMem, MemWb, Rf, Sb, Port, CData, CTag, CValid, CDirty, CLru}
 use Rattle.bit_field.specs.declared.places.Place.{Place}
 use Rattle.bit_field.specs.declared.shapes.Shape.{Shape}
+use Rattle.bit_field.specs.declared.shapes.TheConstants.{COUNTER_BITS, BHT_BITS, BTB_BITS, IB_BITS, ID_EX_BITS, EX_MEM_BITS, MEM_WB_BITS, RF_BITS, SB_BITS, PORT_BITS}
 
 -- a shape that the machine can have: its RAM in MiB, and the sets and ways of its data cache
 pub record IsShape (s : Shape) : Type 0 where
@@ -30,17 +31,17 @@ slots s = s.sets * s.ways
 
 -- the number of bits of a structure
 abbrev pub bits_in : Structure → Shape → ℕ
-bits_in Pc s = 30
-bits_in Npc s = 30
-bits_in Bht s = 128
-bits_in Btb s = 912
-bits_in Ib s = 256
-bits_in IdEx s = 153
-bits_in ExMem s = 79
-bits_in MemWb s = 37
-bits_in Rf s = 992
-bits_in Sb s = 264
-bits_in Port s = 6
+bits_in Pc s = COUNTER_BITS
+bits_in Npc s = COUNTER_BITS
+bits_in Bht s = BHT_BITS
+bits_in Btb s = BTB_BITS
+bits_in Ib s = IB_BITS
+bits_in IdEx s = ID_EX_BITS
+bits_in ExMem s = EX_MEM_BITS
+bits_in MemWb s = MEM_WB_BITS
+bits_in Rf s = RF_BITS
+bits_in Sb s = SB_BITS
+bits_in Port s = PORT_BITS
 bits_in CData s = slots s * 128
 bits_in CTag s = slots s * tag_bits s
 bits_in CValid s = slots s

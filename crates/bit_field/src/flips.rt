@@ -1,45 +1,9 @@
 // Reading and flipping one bit of a number: the parts of which the impls of `Struck` are made.
 
-ghost use Rattle.std.specs.Prelude.{◌≡◌, ◌↔◌, ℕ, ◌+◌, ◌^◌, ◌<◌, ◌≤◌, IsTrue, bit_xor};
+ghost use Rattle.std.specs.Prelude.{◌≡◌, ◌↔◌, ℕ, ◌^◌, ◌<◌, ◌≤◌, IsTrue};
 ghost use Rattle.std.specs.List.{All};
 ghost use Rattle.std.specs.Int.{bit_at as bit_of_number};
-ghost use Rattle.bit_field.specs.Fields.{flip_field, flip_bool};
-
-/// Flips bit `k` of a row in the field of `width` bits that begins at `from`, where it is one of the
-/// field's; else nothing changes.
-#[tactic(auto, using(crate::proofs::Bits::shifted_below_32))]
-pub fn flip_u32(word: &mut u32, from: u32, width: u32, k: u32)
-    requires width { width ≤ 32 }
-    requires end { from + width < 2 ^ 32 }
-    ensures flips { word.new ≡ flip_field from width word.old k }
-    ensures fits { word.old < 2 ^ width → word.new < 2 ^ width }
-{
-    if from <= k && k < from + width {
-        *word ^= 1 << (k - from);
-    }
-}
-
-/// `flip_u32` for a field of at most 8 bits.
-#[tactic(auto, using(crate::proofs::Bits::shifted_below_8))]
-pub fn flip_u8(byte: &mut u8, from: u32, width: u32, k: u32)
-    requires width { width ≤ 8 }
-    requires end { from + width < 2 ^ 32 }
-    ensures flips { byte.new ≡ flip_field from width byte.old k }
-    ensures fits { byte.old < 2 ^ width → byte.new < 2 ^ width }
-{
-    if from <= k && k < from + width {
-        *byte ^= 1 << (k - from);
-    }
-}
-
-/// `flip_u32` for a field of the one bit `from`.
-pub fn flip_bit(flag: &mut bool, from: u32, k: u32)
-    ensures { flag.new ≡ flip_bool from flag.old k }
-{
-    if k == from {
-        *flag = !*flag;
-    }
-}
+ghost use Rattle.bit_field.specs.Layouts.{flip};
 
 /// Whether bit `k` of the number is 1.
 pub fn bit_at(value: u32, k: u32) -> bool
@@ -54,7 +18,7 @@ pub fn bit_at(value: u32, k: u32) -> bool
 pub fn flip_at_u8(byte: &mut u8, width: u32, k: u32)
     requires place { k < width }
     requires width { width ≤ 8 }
-    ensures flips { byte.new ≡ bit_xor byte.old (2 ^ k) }
+    ensures flips { byte.new ≡ flip byte.old k }
     ensures fits { byte.old < 2 ^ width → byte.new < 2 ^ width }
 {
     *byte ^= 1 << k;
@@ -65,7 +29,7 @@ pub fn flip_at_u8(byte: &mut u8, width: u32, k: u32)
 pub fn flip_at_u32(word: &mut u32, width: u32, k: u32)
     requires place { k < width }
     requires width { width ≤ 32 }
-    ensures flips { word.new ≡ bit_xor word.old (2 ^ k) }
+    ensures flips { word.new ≡ flip word.old k }
     ensures fits { word.old < 2 ^ width → word.new < 2 ^ width }
 {
     *word ^= 1 << k;

@@ -5,6 +5,36 @@ ghost use Rattle.bit_field.specs.Shapes as shape_words;
 
 use crate::places::Structure;
 
+/// The bits of a program counter, which is a word address.
+pub const COUNTER_BITS: u32 = 30;
+
+/// The bits of the branch history.
+pub const BHT_BITS: u32 = 128;
+
+/// The bits of the branch target buffer.
+pub const BTB_BITS: u32 = 912;
+
+/// The bits of the instruction buffer.
+pub const IB_BITS: u32 = 256;
+
+/// The bits of ID/EX.
+pub const ID_EX_BITS: u32 = 153;
+
+/// The bits of EX/MEM.
+pub const EX_MEM_BITS: u32 = 79;
+
+/// The bits of MEM/WB.
+pub const MEM_WB_BITS: u32 = 37;
+
+/// The bits of the register file.
+pub const RF_BITS: u32 = 992;
+
+/// The bits of the store buffer.
+pub const SB_BITS: u32 = 264;
+
+/// The bits of the port's latch.
+pub const PORT_BITS: u32 = 6;
+
 /// The size of the RAM and the shape of the data cache.
 #[derive(Clone, Copy, PartialEq, Eq, Debug)]
 pub struct Shape {
@@ -61,16 +91,16 @@ pub fn bits_in(s: Structure, shape: &Shape) -> u32
     ensures { result ≡ shape_words.bits_in s shape.now }
 {
     match s {
-        Structure::Pc | Structure::Npc => 30,
-        Structure::Bht => 128,
-        Structure::Btb => 912,
-        Structure::Ib => 256,
-        Structure::IdEx => 153,
-        Structure::ExMem => 79,
-        Structure::MemWb => 37,
-        Structure::Rf => 992,
-        Structure::Sb => 264,
-        Structure::Port => 6,
+        Structure::Pc | Structure::Npc => COUNTER_BITS,
+        Structure::Bht => BHT_BITS,
+        Structure::Btb => BTB_BITS,
+        Structure::Ib => IB_BITS,
+        Structure::IdEx => ID_EX_BITS,
+        Structure::ExMem => EX_MEM_BITS,
+        Structure::MemWb => MEM_WB_BITS,
+        Structure::Rf => RF_BITS,
+        Structure::Sb => SB_BITS,
+        Structure::Port => PORT_BITS,
         Structure::CData => slots(shape) * 128,
         Structure::CTag => slots(shape) * tag_bits(shape),
         Structure::CValid | Structure::CDirty => slots(shape),

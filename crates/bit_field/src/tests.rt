@@ -75,23 +75,61 @@ fn shapes_are_told_from_others(rt: HostRuntime) {
 #[test]
 fn one_bit_is_flipped(rt: HostRuntime) {
     let mut word = 0b1010;
-    flip_u32(&mut word, 8, 4, 9);
-    assert_eq!(rt; word, 0b1000);
-    flip_u32(&mut word, 8, 4, 12);
+    flip_at_u32(&mut word, 4, 1);
     assert_eq!(rt; word, 0b1000);
     flip_at_u32(&mut word, 32, 31);
     assert!(rt; bit_at(word, 31));
     assert!(rt; !bit_at(word, 30));
-    let mut byte = 3;
-    flip_u8(&mut byte, 2, 2, 3);
-    assert_eq!(rt; byte, 1);
+    let mut byte = 1;
     flip_at_u8(&mut byte, 8, 7);
     assert_eq!(rt; byte, 129);
-    let mut flag = false;
-    flip_bit(&mut flag, 5, 4);
-    assert!(rt; !flag);
-    flip_bit(&mut flag, 5, 5);
-    assert!(rt; flag);
     bytes_fit(&[byte]);
     words_fit(&[word]);
+}
+
+// Three fields of 1, 30 and 4 bits.
+#[derive(Clone, Copy, PartialEq, Eq, Debug)]
+enum Part {
+    Flag,
+    Address,
+    Mask,
+}
+
+impl Field for Part {
+    ghost use Rattle.std.specs.Prelude.{ℕ};
+    ghost use Rattle.bit_field.specs.declared.tests.Part.TheVariants.{Flag, Address, Mask};
+
+    ghost width_of = { elim [ Flag ↦ 1 | Address ↦ 30 | Mask ↦ 4 ] };
+
+    fn width(self) -> u32 {
+        match self {
+            Part::Flag => 1,
+            Part::Address => 30,
+            Part::Mask => 4,
+        }
+    }
+}
+
+#[test]
+fn bits_have_fields(rt: HostRuntime) {
+    let parts = [Part::Flag, Part::Address, Part::Mask];
+    let rows = [
+        (0, Part::Flag, 0),
+        (1, Part::Address, 0),
+        (30, Part::Address, 29),
+        (31, Part::Mask, 0),
+        (34, Part::Mask, 3),
+    ];
+    for (bit, field, place) in rows {
+        assert!(rt; bit < 35);
+        assert!(rt; field_at(&parts, bit) == (field, place), "bit {bit}");
+    }
+}
+
+#[test]
+fn lanes_are_bytes(rt: HostRuntime) {
+    assert!(rt; has_lane(0b0100, 2));
+    assert!(rt; !has_lane(0b0100, 1));
+    assert_eq!(rt; lane_byte(0x0403_0201, 0), 1);
+    assert_eq!(rt; lane_byte(0x0403_0201, 3), 4);
 }

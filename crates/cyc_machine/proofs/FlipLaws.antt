@@ -9,7 +9,7 @@ use Rattle.predictor.proofs.TargetLaws as targets
 use Rattle.pipe_latch.proofs.DecodedLaws as idex
 use Rattle.pipe_latch.proofs.ExecutedLaws as exmem
 use Rattle.pipe_latch.proofs.ResultLaws as memwb
-use Rattle.store_buf.proofs.FlipLaws as sb
+use Rattle.store_buf.proofs.BufferLaws as sb
 use Rattle.wb_cache.proofs.Strikes.{cache_flips_it, cache_flips_no_other, cache_restores}
 use Rattle.cyc_machine.proofs.RegisterLaws as registers
 use Rattle.cyc_machine.proofs.PortLaws as port

@@ -1,8 +1,10 @@
 -- The pipeline in one cycle: what becomes of ID/EX, and the next value of each part by one equation over the old state.
-use Rattle.std.specs.Prelude.{ℕ, ◌-◌, ◌==◌, ◌&&◌, Bool, true, false, nat_le, nat_lt, if◌then◌else◌, List, [], ◌∷◌, ◌++◌, length, Option, Some, None, pred, drop, slice_get, slice_index, slice_set}
+use Rattle.std.specs.Prelude.{ℕ, ◌-◌, ◌==◌, ◌&&◌, Bool, true, false, nat_lt, if◌then◌else◌, List, [], ◌∷◌, ◌++◌, length, Option, Some, None, pred, drop, slice_get, slice_index, slice_set}
 use Rattle.elf_load.specs.Image.{LoadedImage, fetch}
 use Rattle.rv_table.specs.Actions.{is_counter, with_counter}
+use Rattle.rv_table.specs.Operations.{delay_of}
 use Rattle.rv_table.specs.Words.{decode}
+use Rattle.rv_table.specs.declared.op.TheConstants.{FETCH_FAULT_CODE}
 use Rattle.rv_table.specs.declared.op.Op.{Op}
 use Rattle.rv_table.specs.declared.action.Action.{Action}
 use Rattle.pipe_latch.specs.Latches.{DecodedLatch, ExecutedLatch, ResultLatch, no_decoded, no_executed, op_of_latch}
@@ -74,12 +76,7 @@ trained_by None pc tables = tables
 
 -- the operation of an entry: its word's, and the fetch fault's code where its fault bit is set
 abbrev pub op_of_entry : Entry → Op
-op_of_entry e = if e.fault then record (decode e.word) { code = 1 } else decode e.word
-
--- how long an operation stays in EX: 2 more cycles for a product, 15 for a division
-abbrev pub delay_of : ℕ → ℕ
-delay_of code =
-    if nat_le 39 code && nat_le code 42 then 2 else (if nat_le 43 code && nat_le code 46 then 15 else 0)
+op_of_entry e = if e.fault then record (decode e.word) { code = FETCH_FAULT_CODE } else decode e.word
 
 -- the value that decoding holds for a register
 abbrev pub held_value : ResultLatch → List ℕ → ℕ → ℕ

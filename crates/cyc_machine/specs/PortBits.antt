@@ -1,19 +1,42 @@
--- The bits of the port's latch: count 0 to 4, owner 5 (0 load, 1 store).
-use Rattle.std.specs.Prelude.{ℕ, List, [], ◌∷◌}
-use Rattle.bit_field.specs.Fields.{flip_field, flip_bool, number_of, bit_of_row, IsRow}
+-- The bits of the port's latch.
+use Rattle.std.specs.Prelude.{ℕ, not, Option}
+use Rattle.bit_field.specs.Layouts as layouts
+use Rattle.bit_field.specs.Layouts.{Layout, flip, number_of}
 use Rattle.cyc_machine.specs.PortState.{PortState}
+use Rattle.cyc_machine.specs.declared.port.PortField.{PortField}
+use Rattle.cyc_machine.specs.declared.port.PortField.TheVariants.{Count, Owner}
+use Rattle.cyc_machine.specs.declared.port.TheConstants.{PORT_FIELDS}
 
-abbrev pub widths : List ℕ
-widths = 5 ∷ 1 ∷ []
+-- the number of bits of each field, in bit order
+abbrev pub width : PortField → ℕ
+width Count = 5
+width Owner = 1
 
-abbrev pub values : PortState → List ℕ
-values x = x.count ∷ number_of x.owner ∷ []
+-- the number that a field holds
+abbrev pub value : PortState → PortField → ℕ
+value x Count = x.count
+value x Owner = number_of x.owner
 
+-- the latch with bit i of a field flipped
+abbrev pub flip_in : PortState → PortField → ℕ → PortState
+flip_in x Count i = record x { count = flip x.count i }
+flip_in x Owner i = record x { owner = not x.owner }
+
+abbrev pub layout : Layout PortState PortField
+layout = record { fields = PORT_FIELDS; width = width; value = value; flip_in = flip_in }
+
+-- each field is below its width
 abbrev pub IsFit : PortState → Type 0
-IsFit x = IsRow widths (values x)
+IsFit = layouts.IsFit layout
 
+-- the field that holds bit k, and which of the field's own bits that is
+abbrev pub field_of : ℕ → Option (PortField × ℕ)
+field_of = layouts.field_of layout
+
+-- bit k, 0 or 1
 abbrev pub bit_of : PortState → ℕ → ℕ
-bit_of x k = bit_of_row 0 widths (values x) k
+bit_of = layouts.bit_of layout
 
+-- the latch with bit k flipped
 abbrev pub flipped : PortState → ℕ → PortState
-flipped x k = record { count = flip_field 0 5 x.count k; owner = flip_bool 5 x.owner k }
+flipped = layouts.flipped layout

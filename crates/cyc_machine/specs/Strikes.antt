@@ -9,7 +9,7 @@ use Rattle.predictor.specs.Places as tables
 use Rattle.pipe_latch.specs.DecodedBits as idex
 use Rattle.pipe_latch.specs.ExecutedBits as exmem
 use Rattle.pipe_latch.specs.ResultBits as memwb
-use Rattle.store_buf.specs.Bits as sb
+use Rattle.store_buf.specs.BufferBits as sb
 use Rattle.wb_cache.specs.Bits as cache
 use Rattle.cyc_machine.specs.RegisterBits as registers
 use Rattle.cyc_machine.specs.PortBits as port

@@ -2,7 +2,7 @@
 
 ghost use Rattle.std.specs.Prelude.{ℕ};
 ghost use Rattle.cyc_machine.specs.Cycle.{cycle};
-ghost use Rattle.cyc_machine.specs.EventsLaw.{EventLaw, EventsLaw};
+ghost use Rattle.cyc_machine.specs.EventsLaw.{EventLaw, EventsLaw, HeldLaw};
 ghost use Rattle.cyc_machine.specs.FlipLaw.{FlipsBack, FlipsNoOther, FlipsThatBit};
 ghost use Rattle.cyc_machine.specs.RunsLaw.{RunsLaw};
 ghost use Rattle.cyc_machine.specs.Sizes.{IsSteady};
@@ -50,8 +50,9 @@ pub fn runs_law()
 {}
 
 /// Changes nothing; its contract is what the events of the cache tell, from every state that has the machine's sizes: what an
-/// event does to its slot, that nothing else changes a slot, and that the events of a run rise in cycles.
+/// event does to its slot, that nothing else changes a slot, that the events of a run rise in cycles, and what each slot holds by them.
 pub fn events_law()
     ensures cycle { (s : State) → IsSteady s → EventLaw s (cycle s) }
     ensures runs { (n : ℕ) (s : State) → IsSteady s → EventsLaw n s }
+    ensures held { HeldLaw }
 {}

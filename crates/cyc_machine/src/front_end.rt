@@ -8,7 +8,7 @@ use crate::registers::RegisterFile;
 use elf_load::Image;
 use inst_buf::{InstBuf, Slot};
 use pipe_latch::{IdEx, MemWb, late};
-use rv_table::{Op, decode};
+use rv_table::{FETCH_FAULT_CODE, Op, decode, delay_of};
 
 // The next ID/EX.
 #[tactic(auto, unfolding(crate::specs::Pipeline::decoded_after))]
@@ -77,7 +77,7 @@ fn op_of_entry(entry: &Slot) -> Op
 {
     let mut op = decode(entry.word);
     if entry.fault {
-        op.code = 1;
+        op.code = FETCH_FAULT_CODE;
     }
     op
 }
@@ -91,20 +91,6 @@ fn held_value(w: &MemWb, registers: &RegisterFile, rs: u8) -> u32
         0
     } else {
         late(rs, registers.read(rs), w)
-    }
-}
-
-// How many more cycles an operation stays in EX.
-fn delay_of(code: u8) -> u8
-    ensures delay { result ≡ pipeline.delay_of code }
-    ensures within { result < 32 }
-{
-    if 39 <= code && code <= 42 {
-        2
-    } else if 43 <= code && code <= 46 {
-        15
-    } else {
-        0
     }
 }
 

@@ -1,14 +1,16 @@
 // The port of the cache, and what it does in a cycle.
 ghost use Rattle.std.specs.Prelude.{◌≡◌, ◌↔◌, ℕ, ◌<◌, ◌^◌, IsTrue};
 
-use bit_field::{Struck, bit_at, flip_bit, flip_u8};
+use bit_field::{Field, PORT_BITS, Struck, bit_at, field_at, flip_at_u8};
 use std::marker::Model;
 use store_buf::Pending;
 
-/// The port's latch: how many cycles its client must still wait (below 32), and whether that is the store client.
+/// The port's latch.
 #[derive(Clone, Copy, Debug, PartialEq, Eq)]
 pub struct PortLatch {
+    /// How many cycles its client must still wait, below 32.
     pub count: u8,
+    /// Whether that is the store client.
     pub owner: bool,
 }
 
@@ -25,32 +27,57 @@ impl Model for PortLatch {
     ghost inverse = { λ x. record { count = x.count; owner = x.owner } };
 }
 
+/// A field of the port's latch.
+#[derive(Clone, Copy, PartialEq, Eq, Debug)]
+pub enum PortField {
+    Count,
+    Owner,
+}
+
+/// The fields of the port's latch in bit order.
+pub const PORT_FIELDS: [PortField; 2] = [PortField::Count, PortField::Owner];
+
+impl Field for PortField {
+    ghost use Rattle.cyc_machine.specs.PortBits as bits;
+
+    ghost width_of = { bits.width };
+
+    fn width(self) -> u32 {
+        match self {
+            PortField::Count => 5,
+            PortField::Owner => 1,
+        }
+    }
+}
+
 impl Struck for PortLatch {
-    ghost use Rattle.cyc_machine.specs.PortBits as port_bits;
+    ghost use Rattle.bit_field.specs.Layouts.{bit_count as bits_of_layout};
+    ghost use Rattle.cyc_machine.specs.PortBits as bits;
 
-    ghost IsFit = { port_bits.IsFit };
+    ghost IsFit = { bits.IsFit };
 
-    ghost bit_count = { λ _. 6 };
+    ghost bit_count = { λ _. bits_of_layout bits.layout };
 
-    ghost bit_of = { port_bits.bit_of };
+    ghost bit_of = { bits.bit_of };
 
-    ghost flipped = { port_bits.flipped };
+    ghost flipped = { bits.flipped };
 
     fn bits(&self) -> u32 {
-        6
+        PORT_BITS
     }
 
     fn bit(&self, k: u32) -> bool {
-        if k < 5 {
-            bit_at(u32::from(self.count), k)
-        } else {
-            self.owner
-        }
+        let (field, place) = field_at(&PORT_FIELDS, k);
+        bit_at(self.value(field), place)
     }
 
     fn flip(&mut self, k: u32) {
-        flip_u8(&mut self.count, 0, 5, k);
-        flip_bit(&mut self.owner, 5, k);
+        let (field, place) = field_at(&PORT_FIELDS, k);
+        let width = field.width();
+        match field {
+            PortField::Count => flip_at_u8(&mut self.count, width, place),
+            PortField::Owner => self.owner = !self.owner,
+        }
     }
 
     fn fits(&self) {
@@ -58,6 +85,29 @@ impl Struck for PortLatch {
     }
 
     fn laws(&self) {}
+}
+
+impl PortLatch {
+    ghost use Rattle.std.specs.Prelude.{◌<◌, Some};
+    ghost use Rattle.cyc_machine.specs.PortBits as bits;
+
+    /// The field that holds a bit, and which of the field's own bits that is, both counted from 0.
+    pub fn field_at(bit: u32) -> (PortField, u32)
+        requires { bit < PORT_BITS }
+        ensures { bits.field_of bit ≡ Some result }
+    {
+        field_at(&PORT_FIELDS, bit)
+    }
+
+    // The number that a field holds.
+    fn value(&self, field: PortField) -> u32
+        ensures { result ≡ bits.value self.now field }
+    {
+        match field {
+            PortField::Count => u32::from(self.count),
+            PortField::Owner => u32::from(self.owner),
+        }
+    }
 }
 
 /// What the port does in a cycle, and with which way of the set. Words and lines are word and line addresses.

@@ -2,7 +2,7 @@
 ghost use Rattle.std.specs.Prelude.{◌≡◌, ◌↔◌, ℕ, ◌<◌, ◌^◌, ◌/◌, ◌*◌, IsTrue, replicate};
 ghost use Rattle.cyc_machine.specs.Pipeline.{register, written_registers};
 
-use bit_field::{Struck, bit_at, flip_at_u32, words_fit};
+use bit_field::{COUNTER_BITS, RF_BITS, Struck, bit_at, flip_at_u32, words_fit};
 use pipe_latch::MemWb;
 use std::marker::Model;
 
@@ -25,18 +25,19 @@ impl Model for ProgramCounter {
 }
 
 impl Struck for ProgramCounter {
+    ghost use Rattle.bit_field.specs.declared.shapes.TheConstants.{COUNTER_BITS};
     ghost use Rattle.cyc_machine.specs.RegisterBits as counter;
 
     ghost IsFit = { counter.IsCounterFit };
 
-    ghost bit_count = { λ _. 30 };
+    ghost bit_count = { λ _. COUNTER_BITS };
 
     ghost bit_of = { counter.counter_bit };
 
     ghost flipped = { counter.counter_flipped };
 
     fn bits(&self) -> u32 {
-        30
+        COUNTER_BITS
     }
 
     fn bit(&self, k: u32) -> bool {
@@ -44,7 +45,7 @@ impl Struck for ProgramCounter {
     }
 
     fn flip(&mut self, k: u32) {
-        flip_at_u32(&mut self.word, 30, k);
+        flip_at_u32(&mut self.word, COUNTER_BITS, k);
     }
 
     fn fits(&self) {
@@ -64,10 +65,13 @@ impl ProgramCounter {
     }
 }
 
+/// The number of registers that are stored: register 0 is none of them.
+pub const REGISTERS: usize = 31;
+
 /// Registers 1 to 31. Contracts see their values in order.
 #[derive(Clone, Copy)]
 pub struct RegisterFile {
-    values: [u32; 31],
+    values: [u32; REGISTERS],
 }
 
 impl Model for RegisterFile {
@@ -85,14 +89,14 @@ impl Struck for RegisterFile {
 
     ghost IsFit = { file.IsFileFit };
 
-    ghost bit_count = { λ _. 992 };
+    ghost bit_count = { λ _. file.file_bit_count };
 
     ghost bit_of = { file.file_bit };
 
     ghost flipped = { file.file_flipped };
 
     fn bits(&self) -> u32 {
-        992
+        RF_BITS
     }
 
     fn bit(&self, k: u32) -> bool {
@@ -113,9 +117,11 @@ impl Struck for RegisterFile {
 impl RegisterFile {
     /// All registers are 0.
     pub fn new() -> RegisterFile
-        ensures { result ≡ replicate 31 0 }
+        ensures { result ≡ replicate REGISTERS 0 }
     {
-        RegisterFile { values: [0; 31] }
+        RegisterFile {
+            values: [0; REGISTERS],
+        }
     }
 
     /// Register `r`, 0 to 31; register 0 reads 0.

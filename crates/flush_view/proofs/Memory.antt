@@ -8,7 +8,7 @@
 --   FourSlots: those of the four slots, the free ones left out; Overlay: what they are over a byte below.
 -- The law:
 --   SlotLaw: coherence and view after a move, over slots and lists; Loads, Given: what a done action gives its register.
---   MemoryLaw: the machine's cycle.
+--   MemoryLaw: the machine's cycle. ViewBytes: the bytes of the view are below 256.
 pub mod Ways
 pub mod FoundByte
 pub mod Drain
@@ -20,3 +20,4 @@ pub mod SlotLaw
 pub mod Loads
 pub mod Given
 pub mod MemoryLaw
+pub mod ViewBytes

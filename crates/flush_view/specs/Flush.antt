@@ -43,18 +43,22 @@ path_of image m w memory d waiting =
 abbrev pub path : State → List Item
 path s = path_of s.image (action_in_m s) s.w (view s) s.d (entries s.buffer)
 
--- MEM/WB and then EX/MEM completed, over the view
-abbrev pub latched : State → List ℕ → Log → Arch
-latched s clocks log =
-    latches_completed s.image (action_in_m s) s.w (record {
+-- the state of the instruction set with nothing of the work in flight completed, over a memory
+abbrev pub before_latches : State → (ℕ → ℕ) → List ℕ → Log → Arch
+before_latches s memory clocks log =
+    record {
       registers = register s.registers;
-      memory = view s;
+      memory = memory;
       pc = s.npc;
       count = s.issued;
       clocks = clocks;
       log = log;
       stop = None;
-    })
+    }
+
+-- MEM/WB and then EX/MEM completed, over the view
+abbrev pub latched : State → List ℕ → Log → Arch
+latched s clocks log = latches_completed s.image (action_in_m s) s.w (before_latches s (view s) clocks log)
 
 -- The flush with these clock values for the reads of the cycle counter to come, after what the log says.
 unfoldable pub flush : State → List ℕ → Log → Arch

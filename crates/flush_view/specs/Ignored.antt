@@ -7,7 +7,7 @@ use Rattle.pipe_latch.specs.Latches.{DecodedLatch, ExecutedLatch, ResultLatch, n
 use Rattle.bit_field.specs.Lanes.{has_lane, lane_byte}
 use Rattle.store_buf.specs.Entry.{Entry as Pending, no_entry as no_pending}
 use Rattle.wb_cache.specs.Contents.{Contents, Slot, no_slot, slots}
-use Rattle.cyc_machine.specs.Cycle.{cycle}
+use Rattle.cyc_machine.specs.Cycle.{cycle, done_in}
 use Rattle.cyc_machine.specs.Sizes.{IsSteady}
 use Rattle.cyc_machine.specs.Run.{state_after}
 use Rattle.cyc_machine.specs.Reports.{SameReport}
@@ -77,11 +77,14 @@ pub record DiffersInIgnored (s u : State) : Type 0 where
 -- same from the first, no cycle makes it differ.
 pub record LockstepLaw (s next : State) : Type 0 where
   pub report : (u : State) → DiffersInIgnored s u → SameReport s u
+  pub done : (u : State) → DiffersInIgnored s u → done_in s ≡ done_in u
   pub state : (u : State) → IsSteady u → DiffersInIgnored s u → DiffersInIgnored next (cycle u)
   pub decoded : (u : State) → DiffersInIgnored s u → next.d ≡ (cycle u).d
 
--- s and u go on for ever, differing in ignored fields alone: each cycle has the same report, and each ID/EX but the first is the same.
+-- s and u go on for ever, differing in ignored fields alone: each cycle has the same report and is done with the same, and each ID/EX
+-- but the first is the same.
 pub record GoesInLockstep (s u : State) : Type 0 where
   pub state : (n : ℕ) → DiffersInIgnored (state_after n s) (state_after n u)
   pub report : (n : ℕ) → SameReport (state_after n s) (state_after n u)
+  pub done : (n : ℕ) → done_in (state_after n s) ≡ done_in (state_after n u)
   pub decoded : (n : ℕ) → (state_after (suc n) s).d ≡ (state_after (suc n) u).d

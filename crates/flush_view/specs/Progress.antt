@@ -1,7 +1,7 @@
 -- The progress law: whatever the structures hold, an instruction is soon done with.
-use Rattle.std.specs.Prelude.{◌≡◌, ◌<◌, ℕ, true, None}
-use Rattle.cyc_machine.specs.Cycle.{end_in, retires}
-use Rattle.cyc_machine.specs.Run.{state_after}
+use Rattle.std.specs.Prelude.{◌≡◌, ◌<◌, ℕ, true}
+use Rattle.cyc_machine.specs.Cycle.{retires}
+use Rattle.cyc_machine.specs.Run.{RunsFor, state_after}
 use Rattle.cyc_machine.specs.State.{State}
 
 -- In one of the first n cycles from s an occupied EX/MEM is left, no end having come before. (The cycle that ends a run leaves an
@@ -9,5 +9,5 @@ use Rattle.cyc_machine.specs.State.{State}
 pub record LeavesWithin (n : ℕ) (s : State) : Type 0 where
   pub waits : ℕ
   pub within : waits < n
-  pub running : (k : ℕ) → k < waits → end_in (state_after k s) ≡ None
+  pub running : RunsFor waits s
   pub leaves : retires (state_after waits s) ≡ true

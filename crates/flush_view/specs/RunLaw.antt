@@ -8,7 +8,7 @@ use Rattle.cyc_machine.specs.Run.{IsRunning, clocks_below, output_below, retired
 use Rattle.flush_view.specs.Positions.{done_below, left_execute, left_memory}
 use Rattle.rv_isa.specs.Runs.{trace_at}
 use Rattle.flush_view.specs.RunFacts.{RunFacts}
-use Rattle.flush_view.specs.declared.laws.TheConstants.{CYCLES_PER_INSTRUCTION}
+use Rattle.cyc_machine.specs.declared.machine.TheConstants.{CYCLES_PER_INSTRUCTION}
 
 -- With these clock values the instruction set's run ends so after n instructions, with these bytes, and not before.
 pub record EndsAfter (image : LoadedImage) (clocks : List ℕ) (n : ℕ) (end : End) (output : List ℕ) : Type 0 where

@@ -41,6 +41,10 @@ pub record Replaces (shape : Shape) (out : ℕ → Bool) (set : ℕ) (old new : 
   pub clean : (line : ℕ) → set_of shape line ≡ set → out line ≡ false → holds shape line new ≡ true → new.dirty ≡ false → old.dirty ≡ false
   pub gone : (line : ℕ) → set_of shape line ≡ set → out line ≡ false → holds shape line old ≡ true → holds shape line new ≡ false → old.dirty ≡ false
 
+-- every line of the set that the slot holds is in X
+abbrev pub IsOut : Shape → (ℕ → Bool) → ℕ → Slot → Type 0
+IsOut shape out set slot = (line : ℕ) → set_of shape line ≡ set → holds shape line slot ≡ true → out line ≡ true
+
 -- s with other contents of the cache
 abbrev pub with_cache : Contents → State → State
 with_cache contents s = record s { cache = contents }

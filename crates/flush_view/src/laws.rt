@@ -6,6 +6,7 @@ ghost use Rattle.cyc_machine.specs.Cycle.{cycle};
 ghost use Rattle.cyc_machine.specs.Reports.{IsCycle};
 ghost use Rattle.cyc_machine.specs.Sizes.{IsSteady};
 ghost use Rattle.cyc_machine.specs.State.{State};
+ghost use Rattle.cyc_machine.specs.declared.machine.TheConstants.{CYCLES_PER_INSTRUCTION};
 ghost use Rattle.flush_view.specs.FlushLaw.{FlushLaw};
 ghost use Rattle.flush_view.specs.FlushParts.{FlushPartsLaw};
 ghost use Rattle.flush_view.specs.Ignored.{DiffersInIgnored, GoesInLockstep, LockstepLaw};
@@ -14,16 +15,12 @@ ghost use Rattle.flush_view.specs.Progress.{LeavesWithin};
 ghost use Rattle.flush_view.specs.RunLaw.{RunLaw};
 ghost use Rattle.flush_view.specs.Struck.{StruckLaws};
 ghost use Rattle.rv_isa.specs.Instruction.{Log};
-ghost use Rattle.flush_view.specs.declared.laws.TheConstants.{CYCLES_PER_INSTRUCTION};
 
 use avf_base::Steps;
 use bit_field::Shape;
 use cyc_machine::{CycleReport, Machine};
 use elf_load::Image;
 use std::sync::ledger::Ledger;
-
-/// Within so many cycles, whatever the machine's structures hold, an instruction leaves EX/MEM or the run ends.
-pub const CYCLES_PER_INSTRUCTION: u32 = 256;
 
 /// One clock cycle, as `Machine::step`; its contract has the laws of a cycle besides, which hold whatever the machine's
 /// structures hold: what the cycle does to memory, to the flush (after Burch and Dill, CAV 1994) and to a state that differs in

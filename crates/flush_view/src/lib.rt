@@ -7,5 +7,5 @@
 mod laws;
 mod views;
 
-pub use laws::{CYCLES_PER_INSTRUCTION, cycle_laws, flush_laws, run_law, step_flush, struck_laws};
+pub use laws::{cycle_laws, flush_laws, run_law, step_flush, struck_laws};
 pub use views::view_byte;

@@ -2,10 +2,12 @@
 use Rattle.std.proofs.Common.{arith}
 use Rattle.bit_field.specs.Laws.{FlipLaws}
 use Rattle.bit_field.proofs.Arrays.{laws_of_array}
-use Rattle.inst_buf.specs.BufferBits.{IsFit, bit_of, flipped}
+use Rattle.inst_buf.specs.BufferBits.{IsFit, bit_count, bit_of, flipped}
 use Rattle.inst_buf.specs.Entry.{no_entry}
 use Rattle.inst_buf.specs.EntryBits as slot
+use Rattle.inst_buf.specs.declared.buffer.TheConstants.{SLOTS}
+use Rattle.inst_buf.specs.declared.slots.TheConstants.{SLOT_BITS}
 use Rattle.inst_buf.proofs.SlotLaws as slot_laws
 
-pub laws : FlipLaws IsFit (λ _. 256) bit_of flipped
-laws = laws_of_array 4 64 no_entry slot.IsFit slot.bit_of slot.flipped (omega arith) slot_laws.laws
+pub laws : FlipLaws IsFit (λ _. bit_count) bit_of flipped
+laws = laws_of_array SLOTS SLOT_BITS no_entry slot.IsFit slot.bit_of slot.flipped (omega arith) slot_laws.laws

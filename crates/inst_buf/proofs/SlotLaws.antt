@@ -1,25 +1,42 @@
 -- The laws of a flip for a slot of the instruction buffer.
-use Rattle.std.specs.Prelude.{◌≡◌, ℕ, Bool, List, slice_index}
-use Rattle.std.proofs.Common.{ap, sym, ◌∙◌}
-use Rattle.bit_field.specs.Fields.{flip_row, number_of}
+use Rattle.std.specs.Prelude.{◌≡◌, ◌≢◌, ℕ, ◌<◌, Some, slice_get, refl}
 use Rattle.bit_field.specs.Laws.{FlipLaws}
-use Rattle.bit_field.proofs.Rows.{laws_by_row, number_of-flip_bool, is_one, is_one-number_of}
+use Rattle.bit_field.specs.Layouts.{bit_count, flip}
+use Rattle.bit_field.proofs.LayoutLaws.{IsMadeUp, laws_of_layout, number_of-flip, number_of-same}
+use Rattle.inst_buf.specs.EntryBits.{IsFit, bit_of, flip_in, flipped, layout, value, width}
 use Rattle.inst_buf.specs.Entry.{Entry}
-use Rattle.inst_buf.specs.EntryBits.{widths, values, IsFit, bit_of, flipped}
+use Rattle.inst_buf.specs.declared.slots.SlotField.{SlotField}
+use Rattle.inst_buf.specs.declared.slots.SlotField.TheVariants.{Valid, Fault, Pc, Word}
 
-abbrev pub from_values : List ℕ → Entry
-from_values vs = record { valid = is_one (slice_index vs 0); fault = is_one (slice_index vs 1); pc = slice_index vs 2; word = slice_index vs 3 }
+number : SlotField → ℕ
+number Valid = 0
+number Fault = 1
+number Pc = 2
+number Word = 3
 
-flips : (x : Entry) (k : ℕ) → values (flipped x k) ≡ flip_row 0 widths (values x) k
-flips x k = let e = number_of-flip_bool 0 x.valid k in let f = number_of-flip_bool 1 x.fault k in cc
+each : (f : SlotField) → slice_get layout.fields (number f) ≡ Some f
+unfolding number
+each Valid = refl
+each _ = refl
 
-from_values-values : (x : Entry) → from_values (values x) ≡ x
-from_values-values x =
-    ap (λ (v : Bool). record x { valid = v; fault = is_one (number_of x.fault) }) (is_one-number_of x.valid)
-    ∙ ap (λ (v : Bool). record x { fault = v }) (is_one-number_of x.fault)
+changes : (x : Entry) (f : SlotField) (i : ℕ) → i < width f → value (flip_in x f i) f ≡ flip (value x f) i
+changes x Valid i l = number_of-flip x.valid i l
+changes x Fault i l = number_of-flip x.fault i l
+changes x _ i l = refl
 
-same_values : (x y : Entry) → values x ≡ values y → x ≡ y
-same_values x y e = sym (from_values-values x) ∙ ap from_values e ∙ from_values-values y
+keeps : (x : Entry) (f g : SlotField) (i : ℕ) → f ≢ g → value (flip_in x f i) g ≡ value x g
+keeps x Valid Valid i ne = absurd (ne refl)
+keeps x Fault Fault i ne = absurd (ne refl)
+keeps x Pc Pc i ne = absurd (ne refl)
+keeps x Word Word i ne = absurd (ne refl)
+keeps x _ _ i ne = refl
 
-pub laws : FlipLaws IsFit (λ _. 64) bit_of flipped
-laws = laws_by_row widths values flipped flips same_values
+same_fields : (x y : Entry) → ((f : SlotField) → value x f ≡ value y f) → x ≡ y
+same_fields x y same = λ j. record { valid = number_of-same x.valid y.valid (same Valid) j; fault = number_of-same x.fault y.fault (same Fault) j; pc = same Pc j; word = same Word j }
+
+made_up : IsMadeUp layout number
+unfolding number
+made_up = record { numbered = (refl, (refl, (refl, (refl, tt)))); each = each; changes = changes; keeps = keeps; same = same_fields }
+
+pub laws : FlipLaws IsFit (λ _. bit_count layout) bit_of flipped
+laws = laws_of_layout layout number made_up

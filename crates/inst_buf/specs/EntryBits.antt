@@ -1,25 +1,48 @@
 -- The bits of a slot of the instruction buffer.
-use Rattle.std.specs.Prelude.{ℕ, List, [], ◌∷◌}
-use Rattle.bit_field.specs.Fields.{flip_field, flip_bool, number_of, bit_of_row, IsRow}
+use Rattle.std.specs.Prelude.{ℕ, not, Option}
+use Rattle.bit_field.specs.Layouts as layouts
+use Rattle.bit_field.specs.Layouts.{Layout, flip, number_of}
 use Rattle.inst_buf.specs.Entry.{Entry}
+use Rattle.inst_buf.specs.declared.slots.SlotField.{SlotField}
+use Rattle.inst_buf.specs.declared.slots.SlotField.TheVariants.{Valid, Fault, Pc, Word}
+use Rattle.inst_buf.specs.declared.slots.TheConstants.{SLOT_FIELDS}
 
--- valid 0, fault 1, pc 2 to 31, word 32 to 63
-abbrev pub widths : List ℕ
-widths = 1 ∷ 1 ∷ 30 ∷ 32 ∷ []
+-- the number of bits of each field, in bit order
+abbrev pub width : SlotField → ℕ
+width Valid = 1
+width Fault = 1
+width Pc = 30
+width Word = 32
 
-abbrev pub values : Entry → List ℕ
-values x = number_of x.valid ∷ number_of x.fault ∷ x.pc ∷ x.word ∷ []
+-- the number that a field holds
+abbrev pub value : Entry → SlotField → ℕ
+value x Valid = number_of x.valid
+value x Fault = number_of x.fault
+value x Pc = x.pc
+value x Word = x.word
 
+-- the slot with bit i of a field flipped
+abbrev pub flip_in : Entry → SlotField → ℕ → Entry
+flip_in x Valid i = record x { valid = not x.valid }
+flip_in x Fault i = record x { fault = not x.fault }
+flip_in x Pc i = record x { pc = flip x.pc i }
+flip_in x Word i = record x { word = flip x.word i }
+
+abbrev pub layout : Layout Entry SlotField
+layout = record { fields = SLOT_FIELDS; width = width; value = value; flip_in = flip_in }
+
+-- each field is below its width
 abbrev pub IsFit : Entry → Type 0
-IsFit x = IsRow widths (values x)
+IsFit = layouts.IsFit layout
 
+-- the field that holds bit k, and which of the field's own bits that is
+abbrev pub field_of : ℕ → Option (SlotField × ℕ)
+field_of = layouts.field_of layout
+
+-- bit k, 0 or 1
 abbrev pub bit_of : Entry → ℕ → ℕ
-bit_of x k = bit_of_row 0 widths (values x) k
+bit_of = layouts.bit_of layout
 
+-- the slot with bit k flipped
 abbrev pub flipped : Entry → ℕ → Entry
-flipped x k = record {
-  valid = flip_bool 0 x.valid k;
-  fault = flip_bool 1 x.fault k;
-  pc = flip_field 2 30 x.pc k;
-  word = flip_field 32 32 x.word k;
-}
+flipped = layouts.flipped layout

@@ -4,26 +4,30 @@ ghost use Rattle.std.specs.Prelude.{◌≡◌, ◌+◌, ◌<◌, ◌≤◌, true
 ghost use Rattle.inst_buf.specs.Entry.{no_entry};
 ghost use Rattle.inst_buf.specs.Buffer.{entries, packed, slot_of};
 
-use crate::slots::{Slot, empty_slot};
-use bit_field::Struck;
+use crate::slots::{SLOT_BITS, Slot, empty_slot};
+use bit_field::{IB_BITS, Struck};
 use std::marker::Model;
 
+/// The number of slots.
+pub const SLOTS: usize = 4;
+
 /// The instruction buffer. Contracts see its four slots as a list, which may have empty slots between valid
-/// ones, since a strike can make any. 256 bits can be struck: slot k from bit 64 k.
+/// ones, since a strike can make any. The bits of its slots stand one slot after another.
 #[derive(Clone, Copy)]
 pub struct InstBuf {
-    slots: [Slot; 4],
+    slots: [Slot; SLOTS],
 }
 
 impl Model for InstBuf {
     ghost use Rattle.std.specs.Prelude.{◌≡◌, List, length};
+    ghost use Rattle.inst_buf.specs.declared.buffer.TheConstants.{SLOTS};
     ghost use Rattle.inst_buf.specs.Entry.{Entry};
 
     ghost Value = { List Entry };
 
     ghost view = { λ x. x.slots };
 
-    ghost invariant = { λ x. length x.slots ≡ 4 };
+    ghost invariant = { λ x. length x.slots ≡ SLOTS };
 
     ghost inverse = { λ xs. record { slots = xs } };
 }
@@ -33,24 +37,24 @@ impl Struck for InstBuf {
 
     ghost IsFit = { buffer_bits.IsFit };
 
-    ghost bit_count = { λ _. 256 };
+    ghost bit_count = { λ _. buffer_bits.bit_count };
 
     ghost bit_of = { buffer_bits.bit_of };
 
     ghost flipped = { buffer_bits.flipped };
 
     fn bits(&self) -> u32 {
-        256
+        IB_BITS
     }
 
     fn bit(&self, k: u32) -> bool {
-        let slot = &self.slots[(k / 64) as usize];
-        slot.bit(k % 64)
+        let slot = &self.slots[(k / SLOT_BITS) as usize];
+        slot.bit(k % SLOT_BITS)
     }
 
     fn flip(&mut self, k: u32) {
-        let slot = &mut self.slots[(k / 64) as usize];
-        slot.flip(k % 64);
+        let slot = &mut self.slots[(k / SLOT_BITS) as usize];
+        slot.flip(k % SLOT_BITS);
     }
 
     fn fits(&self) {
@@ -74,7 +78,7 @@ impl InstBuf {
 
     /// Slot `k`, 0 to 3.
     pub fn slot(&self, k: u32) -> Slot
-        requires { k < 4 }
+        requires { k < SLOTS }
         ensures { result ≡ slot_of self.now k }
     {
         self.slots[k as usize]
@@ -107,7 +111,7 @@ impl InstBuf {
 
     /// Puts a valid slot behind the others.
     pub fn push(&mut self, s: Slot)
-        requires room { length (entries self.old) < 4 }
+        requires room { length (entries self.old) < SLOTS }
         requires valid { s.valid ≡ true }
         ensures { self.new ≡ packed (entries self.old ++ s ∷ []) }
     {
@@ -142,14 +146,14 @@ impl InstBuf {
     }
 }
 
-fn empty_slots() -> [Slot; 4]
+fn empty_slots() -> [Slot; SLOTS]
     ensures { result ≡ packed [] }
 {
-    [empty_slot(); 4]
+    [empty_slot(); SLOTS]
 }
 
-fn rippled(slots: &[Slot; 4]) -> [Slot; 4]
-    requires { length slots.now ≡ 4 }
+fn rippled(slots: &[Slot; SLOTS]) -> [Slot; SLOTS]
+    requires { length slots.now ≡ SLOTS }
     ensures { result ≡ packed (entries slots.now) }
 {
     let mut next = empty_slots();
@@ -163,8 +167,8 @@ fn rippled(slots: &[Slot; 4]) -> [Slot; 4]
     next
 }
 
-fn moved_down(slots: &[Slot; 4]) -> [Slot; 4]
-    requires { length slots.now ≡ 4 }
+fn moved_down(slots: &[Slot; SLOTS]) -> [Slot; SLOTS]
+    requires { length slots.now ≡ SLOTS }
     ensures { result ≡ drop 1 slots.now ++ no_entry ∷ [] }
 {
     [slots[1], slots[2], slots[3], empty_slot()]

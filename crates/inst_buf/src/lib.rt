@@ -7,8 +7,8 @@
 mod buffer;
 mod slots;
 
-pub use buffer::InstBuf;
-pub use slots::Slot;
+pub use buffer::{InstBuf, SLOTS};
+pub use slots::{SLOT_BITS, SLOT_FIELDS, Slot, SlotField};
 
 #[cfg(test)]
 mod tests;

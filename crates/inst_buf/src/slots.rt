@@ -3,10 +3,13 @@
 ghost use Rattle.std.specs.Prelude.{◌≡◌};
 ghost use Rattle.inst_buf.specs.Entry.{no_entry};
 
-use bit_field::{Struck, bit_at, flip_bit, flip_u32};
+use bit_field::{Field, Struck, bit_at, field_at, flip_at_u32};
 use std::marker::Model;
 
-/// A fetched instruction, or an empty slot. 64 bits can be struck: valid 0, fault 1, pc 2 to 31, word 32 to 63.
+/// The bits of a slot.
+pub const SLOT_BITS: u32 = 64;
+
+/// A fetched instruction, or an empty slot.
 #[derive(Clone, Copy, PartialEq, Eq, Debug)]
 pub struct Slot {
     /// Whether the slot holds an instruction.
@@ -32,38 +35,67 @@ impl Model for Slot {
     ghost inverse = { λ x. record { valid = x.valid; fault = x.fault; pc = x.pc; word = x.word } };
 }
 
+/// A field of a slot of the instruction buffer.
+#[derive(Clone, Copy, PartialEq, Eq, Debug)]
+pub enum SlotField {
+    Valid,
+    Fault,
+    Pc,
+    Word,
+}
+
+/// The fields of a slot of the instruction buffer in bit order.
+pub const SLOT_FIELDS: [SlotField; 4] = [
+    SlotField::Valid,
+    SlotField::Fault,
+    SlotField::Pc,
+    SlotField::Word,
+];
+
+impl Field for SlotField {
+    ghost use Rattle.inst_buf.specs.EntryBits as bits;
+
+    ghost width_of = { bits.width };
+
+    fn width(self) -> u32 {
+        match self {
+            SlotField::Valid | SlotField::Fault => 1,
+            SlotField::Pc => 30,
+            SlotField::Word => 32,
+        }
+    }
+}
+
 impl Struck for Slot {
-    ghost use Rattle.inst_buf.specs.EntryBits as slot_bits;
+    ghost use Rattle.bit_field.specs.Layouts.{bit_count as bits_of_layout};
+    ghost use Rattle.inst_buf.specs.EntryBits as bits;
 
-    ghost IsFit = { slot_bits.IsFit };
+    ghost IsFit = { bits.IsFit };
 
-    ghost bit_count = { λ _. 64 };
+    ghost bit_count = { λ _. bits_of_layout bits.layout };
 
-    ghost bit_of = { slot_bits.bit_of };
+    ghost bit_of = { bits.bit_of };
 
-    ghost flipped = { slot_bits.flipped };
+    ghost flipped = { bits.flipped };
 
     fn bits(&self) -> u32 {
-        64
+        SLOT_BITS
     }
 
     fn bit(&self, k: u32) -> bool {
-        if k < 1 {
-            self.valid
-        } else if k < 2 {
-            self.fault
-        } else if k < 32 {
-            bit_at(self.pc, k - 2)
-        } else {
-            bit_at(self.word, k - 32)
-        }
+        let (field, place) = field_at(&SLOT_FIELDS, k);
+        bit_at(self.value(field), place)
     }
 
     fn flip(&mut self, k: u32) {
-        flip_bit(&mut self.valid, 0, k);
-        flip_bit(&mut self.fault, 1, k);
-        flip_u32(&mut self.pc, 2, 30, k);
-        flip_u32(&mut self.word, 32, 32, k);
+        let (field, place) = field_at(&SLOT_FIELDS, k);
+        let width = field.width();
+        match field {
+            SlotField::Valid => self.valid = !self.valid,
+            SlotField::Fault => self.fault = !self.fault,
+            SlotField::Pc => flip_at_u32(&mut self.pc, width, place),
+            SlotField::Word => flip_at_u32(&mut self.word, width, place),
+        }
     }
 
     fn fits(&self) {
@@ -71,6 +103,31 @@ impl Struck for Slot {
     }
 
     fn laws(&self) {}
+}
+
+impl Slot {
+    ghost use Rattle.std.specs.Prelude.{◌<◌, Some};
+    ghost use Rattle.inst_buf.specs.EntryBits as bits;
+
+    /// The field that holds a bit, and which of the field's own bits that is, both counted from 0.
+    pub fn field_at(bit: u32) -> (SlotField, u32)
+        requires { bit < SLOT_BITS }
+        ensures { bits.field_of bit ≡ Some result }
+    {
+        field_at(&SLOT_FIELDS, bit)
+    }
+
+    // The number that a field holds.
+    fn value(&self, field: SlotField) -> u32
+        ensures { result ≡ bits.value self.now field }
+    {
+        match field {
+            SlotField::Valid => u32::from(self.valid),
+            SlotField::Fault => u32::from(self.fault),
+            SlotField::Pc => self.pc,
+            SlotField::Word => self.word,
+        }
+    }
 }
 
 /// An empty slot: all zero.

@@ -31,6 +31,21 @@ fn each_bit_is_in_its_field(rt: HostRuntime) {
     }
 }
 
+#[test]
+fn a_slot_is_a_row_of_fields(rt: HostRuntime) {
+    let rows = [
+        (SlotField::Valid, 0, 0),
+        (SlotField::Fault, 1, 1),
+        (SlotField::Pc, 2, 31),
+        (SlotField::Word, 32, 63),
+    ];
+    for (field, first, last) in rows {
+        assert!(rt; first <= last && last < SLOT_BITS);
+        assert!(rt; Slot::field_at(first) == (field, 0), "bit {first}");
+        assert!(rt; Slot::field_at(last) == (field, last - first), "bit {last}");
+    }
+}
+
 fn fetched(pc: u32) -> Slot {
     Slot {
         valid: true,

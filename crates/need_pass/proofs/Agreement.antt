@@ -15,7 +15,8 @@ use Rattle.rv_isa.specs.Accesses.{next_action}
 use Rattle.need_pass.specs.Links.{Link, LinkA, LinkB, LinkLoaded, writes, is_register, has_byte, byte_number, stored_bytes}
 use Rattle.need_pass.specs.Needed.{Root, RootA, RootB, Needed, Agrees}
 use Rattle.need_pass.specs.ProgramBits.{ProgramBit, Register, Byte, IsProgramBit, bit_of}
-use Rattle.need_pass.proofs.Fields.{IsFields, fetched_fields}
+use Rattle.rv_table.proofs.DecodedFields.{IsFields}
+use Rattle.rv_isa.proofs.Fetched.{fetched_fields}
 use Rattle.need_pass.proofs.Passes.{needed_bit}
 use Rattle.need_pass.proofs.TwinEffects.{IsAllowed, allowed, same_access, same_put, same_end, same_register, same_given, same_memory}
 use Rattle.need_pass.proofs.Twins.{Twins, asked_twins, judged_twins}

@@ -1,7 +1,6 @@
 pub mod Accessed
 pub mod Agreement
 pub mod ByteBits
-pub mod Fields
 pub mod Histories
 pub mod Immediates
 pub mod MaskBits

@@ -23,7 +23,7 @@ use Rattle.rv_table.specs.declared.operation.Operation.TheVariants.{Lui, Auipc, 
 use Rattle.need_pass.specs.Law.{IsWords}
 use Rattle.rv_isa.specs.Accesses.{next_action}
 use Rattle.need_pass.proofs.OneStep.{operand_below, registers_next, memory_next, count_next, clocks_next}
-use Rattle.need_pass.proofs.Fields.{fetched_fields}
+use Rattle.rv_isa.proofs.Fetched.{fetched_fields}
 use Rattle.need_pass.proofs.Results.{alu_below}
 
 -- ---- what is written has 32 bits

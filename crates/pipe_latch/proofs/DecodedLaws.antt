@@ -1,36 +1,53 @@
 -- The laws of a flip for ID/EX.
-use Rattle.std.specs.Prelude.{◌≡◌, ℕ, Bool, List, slice_index}
-use Rattle.std.proofs.Common.{ap, sym, ◌∙◌}
-use Rattle.bit_field.specs.Fields.{flip_row}
+use Rattle.std.specs.Prelude.{◌≡◌, ◌≢◌, ℕ, ◌<◌, Some, slice_get, refl}
 use Rattle.bit_field.specs.Laws.{FlipLaws}
-use Rattle.bit_field.proofs.Rows.{laws_by_row, number_of-flip_bool, is_one, is_one-number_of}
+use Rattle.bit_field.specs.Layouts.{bit_count, flip}
+use Rattle.bit_field.proofs.LayoutLaws.{IsMadeUp, laws_of_layout, number_of-flip, number_of-same}
+use Rattle.pipe_latch.specs.DecodedBits.{IsFit, bit_of, flip_in, flipped, layout, value, width}
 use Rattle.pipe_latch.specs.Latches.{DecodedLatch}
-use Rattle.pipe_latch.specs.DecodedBits.{widths, values, IsFit, bit_of, flipped}
+use Rattle.pipe_latch.specs.declared.id_ex.IdExField.{IdExField}
+use Rattle.pipe_latch.specs.declared.id_ex.IdExField.TheVariants.{Valid, Pc, Op, Rd, Rs1, Rs2, A, B, Imm, Count}
 
--- the latch whose fields have these values
-abbrev pub from_values : List ℕ → DecodedLatch
-from_values vs =
-    record {
-      valid = is_one (slice_index vs 0);
-      pc = slice_index vs 1;
-      op = slice_index vs 2;
-      rd = slice_index vs 3;
-      rs1 = slice_index vs 4;
-      rs2 = slice_index vs 5;
-      a = slice_index vs 6;
-      b = slice_index vs 7;
-      imm = slice_index vs 8;
-      count = slice_index vs 9;
-    }
+number : IdExField → ℕ
+number Valid = 0
+number Pc = 1
+number Op = 2
+number Rd = 3
+number Rs1 = 4
+number Rs2 = 5
+number A = 6
+number B = 7
+number Imm = 8
+number Count = 9
 
-flips : (d : DecodedLatch) (k : ℕ) → values (flipped d k) ≡ flip_row 0 widths (values d) k
-flips d k = let e = number_of-flip_bool 0 d.valid k in cc
+each : (f : IdExField) → slice_get layout.fields (number f) ≡ Some f
+unfolding number
+each Valid = refl
+each _ = refl
 
-from_values-values : (d : DecodedLatch) → from_values (values d) ≡ d
-from_values-values d = ap (λ (v : Bool). record d { valid = v }) (is_one-number_of d.valid)
+changes : (d : DecodedLatch) (f : IdExField) (i : ℕ) → i < width f → value (flip_in d f i) f ≡ flip (value d f) i
+changes d Valid i l = number_of-flip d.valid i l
+changes d _ i l = refl
 
-same_values : (d e : DecodedLatch) → values d ≡ values e → d ≡ e
-same_values d e same = sym (from_values-values d) ∙ ap from_values same ∙ from_values-values e
+keeps : (d : DecodedLatch) (f g : IdExField) (i : ℕ) → f ≢ g → value (flip_in d f i) g ≡ value d g
+keeps d Valid Valid i ne = absurd (ne refl)
+keeps d Pc Pc i ne = absurd (ne refl)
+keeps d Op Op i ne = absurd (ne refl)
+keeps d Rd Rd i ne = absurd (ne refl)
+keeps d Rs1 Rs1 i ne = absurd (ne refl)
+keeps d Rs2 Rs2 i ne = absurd (ne refl)
+keeps d A A i ne = absurd (ne refl)
+keeps d B B i ne = absurd (ne refl)
+keeps d Imm Imm i ne = absurd (ne refl)
+keeps d Count Count i ne = absurd (ne refl)
+keeps d _ _ i ne = refl
 
-pub laws : FlipLaws IsFit (λ _. 153) bit_of flipped
-laws = laws_by_row widths values flipped flips same_values
+same_fields : (d e : DecodedLatch) → ((f : IdExField) → value d f ≡ value e f) → d ≡ e
+same_fields d e same = λ j. record { valid = number_of-same d.valid e.valid (same Valid) j; pc = same Pc j; op = same Op j; rd = same Rd j; rs1 = same Rs1 j; rs2 = same Rs2 j; a = same A j; b = same B j; imm = same Imm j; count = same Count j }
+
+made_up : IsMadeUp layout number
+unfolding number
+made_up = record { numbered = (refl, (refl, (refl, (refl, (refl, (refl, (refl, (refl, (refl, (refl, tt)))))))))); each = each; changes = changes; keeps = keeps; same = same_fields }
+
+pub laws : FlipLaws IsFit (λ _. bit_count layout) bit_of flipped
+laws = laws_of_layout layout number made_up

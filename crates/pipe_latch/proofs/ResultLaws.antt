@@ -1,18 +1,37 @@
 -- The laws of a flip for MEM/WB.
-use Rattle.std.specs.Prelude.{ℕ, List, slice_index, refl}
-use Rattle.std.proofs.Common.{ap}
+use Rattle.std.specs.Prelude.{◌≡◌, ◌≢◌, ℕ, ◌<◌, Some, slice_get, refl}
 use Rattle.bit_field.specs.Laws.{FlipLaws}
-use Rattle.bit_field.proofs.Rows.{laws_by_row}
+use Rattle.bit_field.specs.Layouts.{bit_count, flip}
+use Rattle.bit_field.proofs.LayoutLaws.{IsMadeUp, laws_of_layout}
+use Rattle.pipe_latch.specs.ResultBits.{IsFit, bit_of, flip_in, flipped, layout, value, width}
 use Rattle.pipe_latch.specs.Latches.{ResultLatch}
-use Rattle.pipe_latch.specs.ResultBits.{widths, values, IsFit, bit_of, flipped}
+use Rattle.pipe_latch.specs.declared.mem_wb.MemWbField.{MemWbField}
+use Rattle.pipe_latch.specs.declared.mem_wb.MemWbField.TheVariants.{Rd, Value}
 
--- the latch whose fields have these values
-abbrev pub from_values : List ℕ → ResultLatch
-from_values vs =
-    record {
-      rd = slice_index vs 0;
-      value = slice_index vs 1;
-    }
+number : MemWbField → ℕ
+number Rd = 0
+number Value = 1
 
-pub laws : FlipLaws IsFit (λ _. 37) bit_of flipped
-laws = laws_by_row widths values flipped (λ d k. refl) (λ d e same. ap from_values same)
+each : (f : MemWbField) → slice_get layout.fields (number f) ≡ Some f
+unfolding number
+each Rd = refl
+each _ = refl
+
+changes : (w : ResultLatch) (f : MemWbField) (i : ℕ) → i < width f → value (flip_in w f i) f ≡ flip (value w f) i
+changes w Rd i l = refl
+changes w _ i l = refl
+
+keeps : (w : ResultLatch) (f g : MemWbField) (i : ℕ) → f ≢ g → value (flip_in w f i) g ≡ value w g
+keeps w Rd Rd i ne = absurd (ne refl)
+keeps w Value Value i ne = absurd (ne refl)
+keeps w _ _ i ne = refl
+
+same_fields : (w v : ResultLatch) → ((f : MemWbField) → value w f ≡ value v f) → w ≡ v
+same_fields w v same = λ j. record { rd = same Rd j; value = same Value j }
+
+made_up : IsMadeUp layout number
+unfolding number
+made_up = record { numbered = (refl, (refl, tt)); each = each; changes = changes; keeps = keeps; same = same_fields }
+
+pub laws : FlipLaws IsFit (λ _. bit_count layout) bit_of flipped
+laws = laws_of_layout layout number made_up

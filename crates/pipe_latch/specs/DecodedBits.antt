@@ -1,35 +1,66 @@
--- The bits of ID/EX: valid 0, pc 1 to 30, op 31 to 36, rd 37 to 41, rs1 42 to 46, rs2 47 to 51, a 52 to 83,
--- b 84 to 115, imm 116 to 147, count 148 to 152. Each field stands from its lowest bit.
-use Rattle.std.specs.Prelude.{ℕ, List, [], ◌∷◌}
-use Rattle.bit_field.specs.Fields.{number_of, flip_bool, flip_field, bit_of_row, IsRow}
+-- The bits of ID/EX.
+use Rattle.std.specs.Prelude.{ℕ, not, Option}
+use Rattle.bit_field.specs.Layouts as layouts
+use Rattle.bit_field.specs.Layouts.{Layout, flip, number_of}
 use Rattle.pipe_latch.specs.Latches.{DecodedLatch}
+use Rattle.pipe_latch.specs.declared.id_ex.IdExField.{IdExField}
+use Rattle.pipe_latch.specs.declared.id_ex.IdExField.TheVariants.{Valid, Pc, Op, Rd, Rs1, Rs2, A, B, Imm, Count}
+use Rattle.pipe_latch.specs.declared.id_ex.TheConstants.{ID_EX_FIELDS}
 
-abbrev pub widths : List ℕ
-widths = 1 ∷ 30 ∷ 6 ∷ 5 ∷ 5 ∷ 5 ∷ 32 ∷ 32 ∷ 32 ∷ 5 ∷ []
+-- the number of bits of each field, in bit order
+abbrev pub width : IdExField → ℕ
+width Valid = 1
+width Pc = 30
+width Op = 6
+width Rd = 5
+width Rs1 = 5
+width Rs2 = 5
+width A = 32
+width B = 32
+width Imm = 32
+width Count = 5
 
-abbrev pub values : DecodedLatch → List ℕ
-values d = number_of d.valid ∷ d.pc ∷ d.op ∷ d.rd ∷ d.rs1 ∷ d.rs2 ∷ d.a ∷ d.b ∷ d.imm ∷ d.count ∷ []
+-- the number that a field holds
+abbrev pub value : DecodedLatch → IdExField → ℕ
+value d Valid = number_of d.valid
+value d Pc = d.pc
+value d Op = d.op
+value d Rd = d.rd
+value d Rs1 = d.rs1
+value d Rs2 = d.rs2
+value d A = d.a
+value d B = d.b
+value d Imm = d.imm
+value d Count = d.count
+
+-- the latch with bit i of a field flipped
+abbrev pub flip_in : DecodedLatch → IdExField → ℕ → DecodedLatch
+flip_in d Valid i = record d { valid = not d.valid }
+flip_in d Pc i = record d { pc = flip d.pc i }
+flip_in d Op i = record d { op = flip d.op i }
+flip_in d Rd i = record d { rd = flip d.rd i }
+flip_in d Rs1 i = record d { rs1 = flip d.rs1 i }
+flip_in d Rs2 i = record d { rs2 = flip d.rs2 i }
+flip_in d A i = record d { a = flip d.a i }
+flip_in d B i = record d { b = flip d.b i }
+flip_in d Imm i = record d { imm = flip d.imm i }
+flip_in d Count i = record d { count = flip d.count i }
+
+abbrev pub layout : Layout DecodedLatch IdExField
+layout = record { fields = ID_EX_FIELDS; width = width; value = value; flip_in = flip_in }
 
 -- each field is below its width
 abbrev pub IsFit : DecodedLatch → Type 0
-IsFit d = IsRow widths (values d)
+IsFit = layouts.IsFit layout
+
+-- the field that holds bit k, and which of the field's own bits that is
+abbrev pub field_of : ℕ → Option (IdExField × ℕ)
+field_of = layouts.field_of layout
 
 -- bit k, 0 or 1
 abbrev pub bit_of : DecodedLatch → ℕ → ℕ
-bit_of d k = bit_of_row 0 widths (values d) k
+bit_of = layouts.bit_of layout
 
 -- the latch with bit k flipped
 abbrev pub flipped : DecodedLatch → ℕ → DecodedLatch
-flipped d k =
-    record {
-      valid = flip_bool 0 d.valid k;
-      pc = flip_field 1 30 d.pc k;
-      op = flip_field 31 6 d.op k;
-      rd = flip_field 37 5 d.rd k;
-      rs1 = flip_field 42 5 d.rs1 k;
-      rs2 = flip_field 47 5 d.rs2 k;
-      a = flip_field 52 32 d.a k;
-      b = flip_field 84 32 d.b k;
-      imm = flip_field 116 32 d.imm k;
-      count = flip_field 148 5 d.count k;
-    }
+flipped = layouts.flipped layout

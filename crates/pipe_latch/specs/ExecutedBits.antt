@@ -1,31 +1,54 @@
--- The bits of EX/MEM: valid 0, kind 1 to 5, rd 6 to 10, x 11 to 42, y 43 to 74, cause 75 to 78. Each field stands from
--- its lowest bit.
-use Rattle.std.specs.Prelude.{ℕ, List, [], ◌∷◌}
-use Rattle.bit_field.specs.Fields.{number_of, flip_bool, flip_field, bit_of_row, IsRow}
+-- The bits of EX/MEM.
+use Rattle.std.specs.Prelude.{ℕ, not, Option}
+use Rattle.bit_field.specs.Layouts as layouts
+use Rattle.bit_field.specs.Layouts.{Layout, flip, number_of}
 use Rattle.pipe_latch.specs.Latches.{ExecutedLatch}
+use Rattle.pipe_latch.specs.declared.ex_mem.ExMemField.{ExMemField}
+use Rattle.pipe_latch.specs.declared.ex_mem.ExMemField.TheVariants.{Valid, Kind, Rd, X, Y, Cause}
+use Rattle.pipe_latch.specs.declared.ex_mem.TheConstants.{EX_MEM_FIELDS}
 
-abbrev pub widths : List ℕ
-widths = 1 ∷ 5 ∷ 5 ∷ 32 ∷ 32 ∷ 4 ∷ []
+-- the number of bits of each field, in bit order
+abbrev pub width : ExMemField → ℕ
+width Valid = 1
+width Kind = 5
+width Rd = 5
+width X = 32
+width Y = 32
+width Cause = 4
 
-abbrev pub values : ExecutedLatch → List ℕ
-values d = number_of d.valid ∷ d.kind ∷ d.rd ∷ d.x ∷ d.y ∷ d.cause ∷ []
+-- the number that a field holds
+abbrev pub value : ExecutedLatch → ExMemField → ℕ
+value m Valid = number_of m.valid
+value m Kind = m.kind
+value m Rd = m.rd
+value m X = m.x
+value m Y = m.y
+value m Cause = m.cause
+
+-- the latch with bit i of a field flipped
+abbrev pub flip_in : ExecutedLatch → ExMemField → ℕ → ExecutedLatch
+flip_in m Valid i = record m { valid = not m.valid }
+flip_in m Kind i = record m { kind = flip m.kind i }
+flip_in m Rd i = record m { rd = flip m.rd i }
+flip_in m X i = record m { x = flip m.x i }
+flip_in m Y i = record m { y = flip m.y i }
+flip_in m Cause i = record m { cause = flip m.cause i }
+
+abbrev pub layout : Layout ExecutedLatch ExMemField
+layout = record { fields = EX_MEM_FIELDS; width = width; value = value; flip_in = flip_in }
 
 -- each field is below its width
 abbrev pub IsFit : ExecutedLatch → Type 0
-IsFit d = IsRow widths (values d)
+IsFit = layouts.IsFit layout
+
+-- the field that holds bit k, and which of the field's own bits that is
+abbrev pub field_of : ℕ → Option (ExMemField × ℕ)
+field_of = layouts.field_of layout
 
 -- bit k, 0 or 1
 abbrev pub bit_of : ExecutedLatch → ℕ → ℕ
-bit_of d k = bit_of_row 0 widths (values d) k
+bit_of = layouts.bit_of layout
 
 -- the latch with bit k flipped
 abbrev pub flipped : ExecutedLatch → ℕ → ExecutedLatch
-flipped d k =
-    record {
-      valid = flip_bool 0 d.valid k;
-      kind = flip_field 1 5 d.kind k;
-      rd = flip_field 6 5 d.rd k;
-      x = flip_field 11 32 d.x k;
-      y = flip_field 43 32 d.y k;
-      cause = flip_field 75 4 d.cause k;
-    }
+flipped = layouts.flipped layout

@@ -4,7 +4,7 @@ ghost use Rattle.rv_table.specs.Effects.{written_register};
 ghost use Rattle.pipe_latch.specs.LatchedActions.{latch_of, trap_number};
 ghost use Rattle.pipe_latch.specs.LatchedActions as spec;
 
-use bit_field::{Struck, bit_at, flip_bit, flip_u8, flip_u32};
+use bit_field::{EX_MEM_BITS, Field, Struck, bit_at, field_at, flip_at_u8, flip_at_u32};
 use rv_table::{Action, LoadKind, StoreKind};
 use std::marker::Model;
 
@@ -39,44 +39,74 @@ impl Model for ExMem {
     ghost inverse = { λ d. record { valid = d.valid; kind = d.kind; rd = d.rd; x = d.x; y = d.y; cause = d.cause } };
 }
 
+/// A field of EX/MEM.
+#[derive(Clone, Copy, PartialEq, Eq, Debug)]
+pub enum ExMemField {
+    Valid,
+    Kind,
+    Rd,
+    X,
+    Y,
+    Cause,
+}
+
+/// The fields of EX/MEM in bit order.
+pub const EX_MEM_FIELDS: [ExMemField; 6] = [
+    ExMemField::Valid,
+    ExMemField::Kind,
+    ExMemField::Rd,
+    ExMemField::X,
+    ExMemField::Y,
+    ExMemField::Cause,
+];
+
+impl Field for ExMemField {
+    ghost use Rattle.pipe_latch.specs.ExecutedBits as bits;
+
+    ghost width_of = { bits.width };
+
+    fn width(self) -> u32 {
+        match self {
+            ExMemField::Valid => 1,
+            ExMemField::Kind | ExMemField::Rd => 5,
+            ExMemField::X | ExMemField::Y => 32,
+            ExMemField::Cause => 4,
+        }
+    }
+}
+
 impl Struck for ExMem {
-    ghost use Rattle.pipe_latch.specs.ExecutedBits as executed_bits;
+    ghost use Rattle.bit_field.specs.Layouts.{bit_count as bits_of_layout};
+    ghost use Rattle.pipe_latch.specs.ExecutedBits as bits;
 
-    ghost IsFit = { executed_bits.IsFit };
+    ghost IsFit = { bits.IsFit };
 
-    ghost bit_count = { λ _. 79 };
+    ghost bit_count = { λ _. bits_of_layout bits.layout };
 
-    ghost bit_of = { executed_bits.bit_of };
+    ghost bit_of = { bits.bit_of };
 
-    ghost flipped = { executed_bits.flipped };
+    ghost flipped = { bits.flipped };
 
     fn bits(&self) -> u32 {
-        79
+        EX_MEM_BITS
     }
 
     fn bit(&self, k: u32) -> bool {
-        if k < 1 {
-            self.valid
-        } else if k < 6 {
-            bit_at(u32::from(self.kind), k - 1)
-        } else if k < 11 {
-            bit_at(u32::from(self.rd), k - 6)
-        } else if k < 43 {
-            bit_at(self.x, k - 11)
-        } else if k < 75 {
-            bit_at(self.y, k - 43)
-        } else {
-            bit_at(u32::from(self.cause), k - 75)
-        }
+        let (field, place) = field_at(&EX_MEM_FIELDS, k);
+        bit_at(self.value(field), place)
     }
 
     fn flip(&mut self, k: u32) {
-        flip_bit(&mut self.valid, 0, k);
-        flip_u8(&mut self.kind, 1, 5, k);
-        flip_u8(&mut self.rd, 6, 5, k);
-        flip_u32(&mut self.x, 11, 32, k);
-        flip_u32(&mut self.y, 43, 32, k);
-        flip_u8(&mut self.cause, 75, 4, k);
+        let (field, place) = field_at(&EX_MEM_FIELDS, k);
+        let width = field.width();
+        match field {
+            ExMemField::Valid => self.valid = !self.valid,
+            ExMemField::Kind => flip_at_u8(&mut self.kind, width, place),
+            ExMemField::Rd => flip_at_u8(&mut self.rd, width, place),
+            ExMemField::X => flip_at_u32(&mut self.x, width, place),
+            ExMemField::Y => flip_at_u32(&mut self.y, width, place),
+            ExMemField::Cause => flip_at_u8(&mut self.cause, width, place),
+        }
     }
 
     fn fits(&self) {
@@ -88,6 +118,8 @@ impl Struck for ExMem {
 }
 
 impl ExMem {
+    ghost use Rattle.std.specs.Prelude.{Some};
+    ghost use Rattle.pipe_latch.specs.ExecutedBits as bits;
     ghost use Rattle.pipe_latch.specs.Latches.{no_executed};
     ghost use Rattle.pipe_latch.specs.LatchedActions.{action_of};
 
@@ -102,6 +134,28 @@ impl ExMem {
             x: 0,
             y: 0,
             cause: 0,
+        }
+    }
+
+    /// The field that holds a bit, and which of the field's own bits that is, both counted from 0.
+    pub fn field_at(bit: u32) -> (ExMemField, u32)
+        requires { bit < EX_MEM_BITS }
+        ensures { bits.field_of bit ≡ Some result }
+    {
+        field_at(&EX_MEM_FIELDS, bit)
+    }
+
+    // The number that a field holds.
+    fn value(&self, field: ExMemField) -> u32
+        ensures { result ≡ bits.value self.now field }
+    {
+        match field {
+            ExMemField::Valid => u32::from(self.valid),
+            ExMemField::Kind => u32::from(self.kind),
+            ExMemField::Rd => u32::from(self.rd),
+            ExMemField::X => self.x,
+            ExMemField::Y => self.y,
+            ExMemField::Cause => u32::from(self.cause),
         }
     }
 

@@ -1,7 +1,7 @@
 // The latch ID/EX.
 ghost use Rattle.std.specs.Prelude.{◌≡◌};
 
-use bit_field::{Struck, bit_at, flip_bit, flip_u8, flip_u32};
+use bit_field::{Field, ID_EX_BITS, Struck, bit_at, field_at, flip_at_u8, flip_at_u32};
 use rv_table::Op;
 use std::marker::Model;
 
@@ -14,9 +14,11 @@ pub struct IdEx {
     pub pc: u32,
     /// Its code, below 64.
     pub op: u8,
-    /// Registers, below 32.
+    /// The register that it writes, below 32; 0 is none.
     pub rd: u8,
+    /// The register of its first operand, below 32.
     pub rs1: u8,
+    /// The register of its second operand, below 32.
     pub rs2: u8,
     /// The value held for register rs1.
     pub a: u32,
@@ -41,56 +43,88 @@ impl Model for IdEx {
     ghost inverse = { λ d. record { valid = d.valid; pc = d.pc; op = d.op; rd = d.rd; rs1 = d.rs1; rs2 = d.rs2; a = d.a; b = d.b; imm = d.imm; count = d.count } };
 }
 
+/// A field of ID/EX.
+#[derive(Clone, Copy, PartialEq, Eq, Debug)]
+pub enum IdExField {
+    Valid,
+    Pc,
+    Op,
+    Rd,
+    Rs1,
+    Rs2,
+    A,
+    B,
+    Imm,
+    Count,
+}
+
+/// The fields of ID/EX in bit order.
+pub const ID_EX_FIELDS: [IdExField; 10] = [
+    IdExField::Valid,
+    IdExField::Pc,
+    IdExField::Op,
+    IdExField::Rd,
+    IdExField::Rs1,
+    IdExField::Rs2,
+    IdExField::A,
+    IdExField::B,
+    IdExField::Imm,
+    IdExField::Count,
+];
+
+impl Field for IdExField {
+    ghost use Rattle.pipe_latch.specs.DecodedBits as bits;
+
+    ghost width_of = { bits.width };
+
+    fn width(self) -> u32 {
+        match self {
+            IdExField::Valid => 1,
+            IdExField::Pc => 30,
+            IdExField::Op => 6,
+            IdExField::Rd | IdExField::Rs1 | IdExField::Rs2 => 5,
+            IdExField::A | IdExField::B | IdExField::Imm => 32,
+            IdExField::Count => 5,
+        }
+    }
+}
+
 impl Struck for IdEx {
-    ghost use Rattle.pipe_latch.specs.DecodedBits as decoded_bits;
+    ghost use Rattle.bit_field.specs.Layouts.{bit_count as bits_of_layout};
+    ghost use Rattle.pipe_latch.specs.DecodedBits as bits;
 
-    ghost IsFit = { decoded_bits.IsFit };
+    ghost IsFit = { bits.IsFit };
 
-    ghost bit_count = { λ _. 153 };
+    ghost bit_count = { λ _. bits_of_layout bits.layout };
 
-    ghost bit_of = { decoded_bits.bit_of };
+    ghost bit_of = { bits.bit_of };
 
-    ghost flipped = { decoded_bits.flipped };
+    ghost flipped = { bits.flipped };
 
     fn bits(&self) -> u32 {
-        153
+        ID_EX_BITS
     }
 
     fn bit(&self, k: u32) -> bool {
-        if k < 1 {
-            self.valid
-        } else if k < 31 {
-            bit_at(self.pc, k - 1)
-        } else if k < 37 {
-            bit_at(u32::from(self.op), k - 31)
-        } else if k < 42 {
-            bit_at(u32::from(self.rd), k - 37)
-        } else if k < 47 {
-            bit_at(u32::from(self.rs1), k - 42)
-        } else if k < 52 {
-            bit_at(u32::from(self.rs2), k - 47)
-        } else if k < 84 {
-            bit_at(self.a, k - 52)
-        } else if k < 116 {
-            bit_at(self.b, k - 84)
-        } else if k < 148 {
-            bit_at(self.imm, k - 116)
-        } else {
-            bit_at(u32::from(self.count), k - 148)
-        }
+        let (field, place) = field_at(&ID_EX_FIELDS, k);
+        bit_at(self.value(field), place)
     }
 
     fn flip(&mut self, k: u32) {
-        flip_bit(&mut self.valid, 0, k);
-        flip_u32(&mut self.pc, 1, 30, k);
-        flip_u8(&mut self.op, 31, 6, k);
-        flip_u8(&mut self.rd, 37, 5, k);
-        flip_u8(&mut self.rs1, 42, 5, k);
-        flip_u8(&mut self.rs2, 47, 5, k);
-        flip_u32(&mut self.a, 52, 32, k);
-        flip_u32(&mut self.b, 84, 32, k);
-        flip_u32(&mut self.imm, 116, 32, k);
-        flip_u8(&mut self.count, 148, 5, k);
+        let (field, place) = field_at(&ID_EX_FIELDS, k);
+        let width = field.width();
+        match field {
+            IdExField::Valid => self.valid = !self.valid,
+            IdExField::Pc => flip_at_u32(&mut self.pc, width, place),
+            IdExField::Op => flip_at_u8(&mut self.op, width, place),
+            IdExField::Rd => flip_at_u8(&mut self.rd, width, place),
+            IdExField::Rs1 => flip_at_u8(&mut self.rs1, width, place),
+            IdExField::Rs2 => flip_at_u8(&mut self.rs2, width, place),
+            IdExField::A => flip_at_u32(&mut self.a, width, place),
+            IdExField::B => flip_at_u32(&mut self.b, width, place),
+            IdExField::Imm => flip_at_u32(&mut self.imm, width, place),
+            IdExField::Count => flip_at_u8(&mut self.count, width, place),
+        }
     }
 
     fn fits(&self) {
@@ -103,6 +137,8 @@ impl Struck for IdEx {
 }
 
 impl IdEx {
+    ghost use Rattle.std.specs.Prelude.{◌<◌, Some};
+    ghost use Rattle.pipe_latch.specs.DecodedBits as bits;
     ghost use Rattle.pipe_latch.specs.Latches.{no_decoded, op_of_latch};
 
     /// The empty latch: all zero.
@@ -120,6 +156,32 @@ impl IdEx {
             b: 0,
             imm: 0,
             count: 0,
+        }
+    }
+
+    /// The field that holds a bit, and which of the field's own bits that is, both counted from 0.
+    pub fn field_at(bit: u32) -> (IdExField, u32)
+        requires { bit < ID_EX_BITS }
+        ensures { bits.field_of bit ≡ Some result }
+    {
+        field_at(&ID_EX_FIELDS, bit)
+    }
+
+    // The number that a field holds.
+    fn value(&self, field: IdExField) -> u32
+        ensures { result ≡ bits.value self.now field }
+    {
+        match field {
+            IdExField::Valid => u32::from(self.valid),
+            IdExField::Pc => self.pc,
+            IdExField::Op => u32::from(self.op),
+            IdExField::Rd => u32::from(self.rd),
+            IdExField::Rs1 => u32::from(self.rs1),
+            IdExField::Rs2 => u32::from(self.rs2),
+            IdExField::A => self.a,
+            IdExField::B => self.b,
+            IdExField::Imm => self.imm,
+            IdExField::Count => u32::from(self.count),
         }
     }
 

@@ -11,11 +11,11 @@ mod forward;
 mod id_ex;
 mod mem_wb;
 
-pub use ex_mem::{ExMem, latch_for};
+pub use ex_mem::{EX_MEM_FIELDS, ExMem, ExMemField, latch_for};
 pub use execution::{Executed, execute};
 pub use forward::{Forwarded, late, operand};
-pub use id_ex::IdEx;
-pub use mem_wb::MemWb;
+pub use id_ex::{ID_EX_FIELDS, IdEx, IdExField};
+pub use mem_wb::{MEM_WB_FIELDS, MemWb, MemWbField};
 
 #[cfg(test)]
 mod tests;

@@ -22,21 +22,22 @@ fn expect_bit(rt: &impl Abort, fields: &[u32], field: usize, place: u32) {
 #[test]
 fn id_ex_bits(rt: HostRuntime) {
     let rows = [
-        (0, 0),
-        (1, 30),
-        (31, 36),
-        (37, 41),
-        (42, 46),
-        (47, 51),
-        (52, 83),
-        (84, 115),
-        (116, 147),
-        (148, 152),
+        (IdExField::Valid, 0, 0),
+        (IdExField::Pc, 1, 30),
+        (IdExField::Op, 31, 36),
+        (IdExField::Rd, 37, 41),
+        (IdExField::Rs1, 42, 46),
+        (IdExField::Rs2, 47, 51),
+        (IdExField::A, 52, 83),
+        (IdExField::B, 84, 115),
+        (IdExField::Imm, 116, 147),
+        (IdExField::Count, 148, 152),
     ];
-    for (field, (first, last)) in rows.into_iter().enumerate() {
+    for (field, (name, first, last)) in rows.into_iter().enumerate() {
         for k in first..=last {
             let mut d = IdEx::empty();
             assert!(rt; k < d.bits());
+            assert!(rt; IdEx::field_at(k) == (name, k - first), "bit {k}");
             d.flip(k);
             assert!(rt; d.bit(k));
             let fields = [
@@ -58,11 +59,19 @@ fn id_ex_bits(rt: HostRuntime) {
 
 #[test]
 fn ex_mem_bits(rt: HostRuntime) {
-    let rows = [(0, 0), (1, 5), (6, 10), (11, 42), (43, 74), (75, 78)];
-    for (field, (first, last)) in rows.into_iter().enumerate() {
+    let rows = [
+        (ExMemField::Valid, 0, 0),
+        (ExMemField::Kind, 1, 5),
+        (ExMemField::Rd, 6, 10),
+        (ExMemField::X, 11, 42),
+        (ExMemField::Y, 43, 74),
+        (ExMemField::Cause, 75, 78),
+    ];
+    for (field, (name, first, last)) in rows.into_iter().enumerate() {
         for k in first..=last {
             let mut m = ExMem::empty();
             assert!(rt; k < m.bits());
+            assert!(rt; ExMem::field_at(k) == (name, k - first), "bit {k}");
             m.flip(k);
             assert!(rt; m.bit(k));
             let fields = [
@@ -80,10 +89,12 @@ fn ex_mem_bits(rt: HostRuntime) {
 
 #[test]
 fn mem_wb_bits(rt: HostRuntime) {
-    for (field, (first, last)) in [(0, 4), (5, 36)].into_iter().enumerate() {
+    let rows = [(MemWbField::Rd, 0, 4), (MemWbField::Value, 5, 36)];
+    for (field, (name, first, last)) in rows.into_iter().enumerate() {
         for k in first..=last {
             let mut w = MemWb::empty();
             assert!(rt; k < w.bits());
+            assert!(rt; MemWb::field_at(k) == (name, k - first), "bit {k}");
             w.flip(k);
             assert!(rt; w.bit(k));
             expect_bit(&rt, &[u32::from(w.rd), w.value], field, k - first);

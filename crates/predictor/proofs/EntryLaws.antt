@@ -1,23 +1,39 @@
 -- The laws of a flip for an entry of the branch target buffer.
-use Rattle.std.specs.Prelude.{◌≡◌, ℕ, Bool, List, slice_index}
-use Rattle.std.proofs.Common.{ap, sym, ◌∙◌}
-use Rattle.bit_field.specs.Fields.{flip_row}
+use Rattle.std.specs.Prelude.{◌≡◌, ◌≢◌, ℕ, ◌<◌, Some, slice_get, refl}
 use Rattle.bit_field.specs.Laws.{FlipLaws}
-use Rattle.bit_field.proofs.Rows.{laws_by_row, number_of-flip_bool, is_one, is_one-number_of}
-use Rattle.predictor.specs.Tables.{Target}
-use Rattle.predictor.specs.EntryBits.{widths, values, IsFit, bit_of, flipped}
+use Rattle.bit_field.specs.Layouts.{bit_count, flip}
+use Rattle.bit_field.proofs.LayoutLaws.{IsMadeUp, laws_of_layout, number_of-flip, number_of-same}
+use Rattle.predictor.specs.EntryBits.{IsFit, bit_of, flip_in, flipped, layout, value, width}
+use Rattle.predictor.specs.Tables.{Target as Entry}
+use Rattle.predictor.specs.declared.targets.BranchTargetField.{BranchTargetField}
+use Rattle.predictor.specs.declared.targets.BranchTargetField.TheVariants.{Valid, Tag, Target}
 
-abbrev pub from_values : List ℕ → Target
-from_values vs = record { valid = is_one (slice_index vs 0); tag = slice_index vs 1; target = slice_index vs 2 }
+number : BranchTargetField → ℕ
+number Valid = 0
+number Tag = 1
+number Target = 2
 
-flips : (x : Target) (k : ℕ) → values (flipped x k) ≡ flip_row 0 widths (values x) k
-flips x k = let e = number_of-flip_bool 0 x.valid k in cc
+each : (f : BranchTargetField) → slice_get layout.fields (number f) ≡ Some f
+unfolding number
+each Valid = refl
+each _ = refl
 
-from_values-values : (x : Target) → from_values (values x) ≡ x
-from_values-values x = ap (λ (v : Bool). record x { valid = v }) (is_one-number_of x.valid)
+changes : (x : Entry) (f : BranchTargetField) (i : ℕ) → i < width f → value (flip_in x f i) f ≡ flip (value x f) i
+changes x Valid i l = number_of-flip x.valid i l
+changes x _ i l = refl
 
-same_values : (x y : Target) → values x ≡ values y → x ≡ y
-same_values x y e = sym (from_values-values x) ∙ ap from_values e ∙ from_values-values y
+keeps : (x : Entry) (f g : BranchTargetField) (i : ℕ) → f ≢ g → value (flip_in x f i) g ≡ value x g
+keeps x Valid Valid i ne = absurd (ne refl)
+keeps x Tag Tag i ne = absurd (ne refl)
+keeps x Target Target i ne = absurd (ne refl)
+keeps x _ _ i ne = refl
 
-pub laws : FlipLaws IsFit (λ _. 57) bit_of flipped
-laws = laws_by_row widths values flipped flips same_values
+same_fields : (x y : Entry) → ((f : BranchTargetField) → value x f ≡ value y f) → x ≡ y
+same_fields x y same = λ j. record { valid = number_of-same x.valid y.valid (same Valid) j; tag = same Tag j; target = same Target j }
+
+made_up : IsMadeUp layout number
+unfolding number
+made_up = record { numbered = (refl, (refl, (refl, tt))); each = each; changes = changes; keeps = keeps; same = same_fields }
+
+pub laws : FlipLaws IsFit (λ _. bit_count layout) bit_of flipped
+laws = laws_of_layout layout number made_up

@@ -1,13 +1,18 @@
--- The bits of the branch history: counter i at bits 2 i and 2 i + 1.
-use Rattle.std.specs.Prelude.{ℕ, ◌^◌, ◌<◌, List, bit_xor}
+-- The bits of the branch history, counter after counter.
+use Rattle.std.specs.Prelude.{ℕ, ◌*◌, ◌^◌, ◌<◌, List}
 use Rattle.std.specs.Int.{bit_at}
 use Rattle.bit_field.specs.Arrays.{bit_of_array, flip_array, IsArray}
+use Rattle.bit_field.specs.Layouts.{flip}
+use Rattle.predictor.specs.declared.history.TheConstants.{COUNTERS, COUNTER_WIDTH}
 
 abbrev pub IsFit : List ℕ → Type 0
-IsFit = IsArray 64 (λ counter. counter < 2 ^ 2)
+IsFit = IsArray COUNTERS (λ counter. counter < 2 ^ COUNTER_WIDTH)
+
+abbrev pub bit_count : ℕ
+bit_count = COUNTERS * COUNTER_WIDTH
 
 abbrev pub bit_of : List ℕ → ℕ → ℕ
-bit_of = bit_of_array 2 0 bit_at
+bit_of = bit_of_array COUNTER_WIDTH 0 bit_at
 
 abbrev pub flipped : List ℕ → ℕ → List ℕ
-flipped = flip_array 2 0 (λ counter k. bit_xor counter (2 ^ k))
+flipped = flip_array COUNTER_WIDTH 0 flip

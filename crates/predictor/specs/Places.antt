@@ -9,8 +9,8 @@ use Rattle.predictor.specs.TargetBits as target_bits
 
 -- bit k of the structure is one of the predictor's
 abbrev pub IsBit : Structure → ℕ → Type 0
-IsBit Bht k = k < 128
-IsBit Btb k = k < 912
+IsBit Bht k = k < history_bits.bit_count
+IsBit Btb k = k < target_bits.bit_count
 IsBit _ k = ⊥
 
 abbrev pub IsPlace : Place → Type 0

@@ -3,24 +3,31 @@
 ghost use Rattle.std.specs.Prelude.{◌≡◌, ◌%◌, ◌<◌, ◌≤◌, slice_index, slice_set, replicate};
 ghost use Rattle.predictor.specs.Tables.{moved};
 
-use bit_field::{Struck, bit_at, flip_at_u8};
+use bit_field::{BHT_BITS, Struck, bit_at, flip_at_u8};
 use std::marker::Model;
 
-/// The counters of the branch history. 128 bits can be struck: counter i at bits 2i and 2i + 1.
+/// The number of counters of the branch history.
+pub const COUNTERS: usize = 64;
+
+/// The bits of a counter.
+pub const COUNTER_WIDTH: u32 = 2;
+
+/// The counters of the branch history. Their bits stand one counter after another.
 #[derive(Clone, Copy)]
 pub struct History {
-    counters: [u8; 64],
+    counters: [u8; COUNTERS],
 }
 
 impl Model for History {
     ghost use Rattle.std.specs.Prelude.{◌^◌, ◌<◌, ℕ, List};
     ghost use Rattle.std.specs.List.{All};
+    ghost use Rattle.predictor.specs.declared.history.TheConstants.{COUNTER_WIDTH};
 
     ghost Value = { List ℕ };
 
     ghost view = { λ x. x.counters };
 
-    ghost invariant = { λ x. All (λ counter. counter < 2 ^ 2) x.counters };
+    ghost invariant = { λ x. All (λ counter. counter < 2 ^ COUNTER_WIDTH) x.counters };
 
     ghost inverse = { λ counters. record { counters = counters } };
 }
@@ -30,22 +37,29 @@ impl Struck for History {
 
     ghost IsFit = { history_bits.IsFit };
 
-    ghost bit_count = { λ _. 128 };
+    ghost bit_count = { λ _. history_bits.bit_count };
 
     ghost bit_of = { history_bits.bit_of };
 
     ghost flipped = { history_bits.flipped };
 
     fn bits(&self) -> u32 {
-        128
+        BHT_BITS
     }
 
     fn bit(&self, k: u32) -> bool {
-        bit_at(u32::from(self.counters[(k / 2) as usize]), k % 2)
+        bit_at(
+            u32::from(self.counters[(k / COUNTER_WIDTH) as usize]),
+            k % COUNTER_WIDTH,
+        )
     }
 
     fn flip(&mut self, k: u32) {
-        flip_at_u8(&mut self.counters[(k / 2) as usize], 2, k % 2);
+        flip_at_u8(
+            &mut self.counters[(k / COUNTER_WIDTH) as usize],
+            COUNTER_WIDTH,
+            k % COUNTER_WIDTH,
+        );
     }
 
     fn fits(&self) {
@@ -58,25 +72,27 @@ impl Struck for History {
 impl History {
     /// Each counter is 1.
     pub fn new() -> History
-        ensures { result ≡ replicate 64 1 }
+        ensures { result ≡ replicate COUNTERS 1 }
     {
-        History { counters: [1; 64] }
+        History {
+            counters: [1; COUNTERS],
+        }
     }
 
     /// The counter of the branch at word address `pc`.
     pub fn counter(&self, pc: u32) -> u8
-        ensures value { result ≡ slice_index self.now (pc % 64) }
+        ensures value { result ≡ slice_index self.now (pc % COUNTERS) }
         ensures most { result ≤ 3 }
     {
-        self.counters[(pc % 64) as usize]
+        self.counters[pc as usize % COUNTERS]
     }
 
     /// Raises the counter of the branch at word address `pc`, at most to 3, or lowers it, at least to 0.
     pub fn learn(&mut self, pc: u32, taken: bool)
-        ensures { self.new ≡ slice_set self.old (pc % 64) (moved taken (slice_index self.old (pc % 64))) }
+        ensures { self.new ≡ slice_set self.old (pc % COUNTERS) (moved taken (slice_index self.old (pc % COUNTERS))) }
     {
         let counter = moved_counter(self.counter(pc), taken);
-        self.counters[(pc % 64) as usize] = counter;
+        self.counters[pc as usize % COUNTERS] = counter;
     }
 }
 

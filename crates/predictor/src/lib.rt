@@ -9,9 +9,11 @@ mod history;
 mod tables;
 mod targets;
 
-pub use history::History;
+pub use history::{COUNTER_WIDTH, COUNTERS, History};
 pub use tables::Predictor;
-pub use targets::{BranchTarget, Targets};
+pub use targets::{
+    BRANCH_TARGET_FIELDS, BranchTarget, BranchTargetField, ENTRIES, ENTRY_BITS, Targets,
+};
 
 #[cfg(test)]
 mod tests;

@@ -5,11 +5,11 @@ ghost use Rattle.predictor.specs.Tables.{fresh_tables, predicts_taken, predicted
 ghost use Rattle.predictor.specs.Places.{IsPlace, IsFit, bit_at_place, flip_at_place};
 
 use crate::history::History;
-use crate::targets::{BranchTarget, Targets};
+use crate::targets::{BranchTarget, ENTRIES, Targets};
 use bit_field::{Place, Struck, Structure};
 use std::marker::Model;
 
-/// The branch predictor: a history of 64 two-bit counters and a buffer of 16 branch targets.
+/// The branch predictor: a history of two-bit counters and a buffer of branch targets.
 #[derive(Clone, Copy)]
 pub struct Predictor {
     history: History,
@@ -46,7 +46,7 @@ impl Predictor {
         ensures within { result < 2 ^ 30 }
     {
         let entry = self.targets.entry(pc);
-        if entry.valid && entry.tag == pc / 16 && self.history.counter(pc) >= 2 {
+        if entry.valid && entry.tag == pc / ENTRIES as u32 && self.history.counter(pc) >= 2 {
             entry.target
         } else {
             (pc + 1) % (1 << 30)
@@ -64,7 +64,7 @@ impl Predictor {
         if taken {
             let entry = BranchTarget {
                 valid: true,
-                tag: pc / 16,
+                tag: pc / ENTRIES as u32,
                 target,
             };
             self.targets.put(pc, entry);

@@ -42,6 +42,23 @@ fn each_bit_is_in_its_field(rt: HostRuntime) {
 }
 
 #[test]
+fn an_entry_is_a_row_of_fields(rt: HostRuntime) {
+    let rows = [
+        (BranchTargetField::Valid, 0, 0),
+        (BranchTargetField::Tag, 1, 26),
+        (BranchTargetField::Target, 27, 56),
+    ];
+    for (field, first, last) in rows {
+        assert!(rt; first <= last && last < ENTRY_BITS);
+        assert!(rt; BranchTarget::field_at(first) == (field, 0), "bit {first}");
+        assert!(rt;
+            BranchTarget::field_at(last) == (field, last - first),
+            "bit {last}"
+        );
+    }
+}
+
+#[test]
 fn a_branch_is_learnt(rt: HostRuntime) {
     let mut predictor = Predictor::new();
     assert_eq!(rt; predictor.next(5), 6);

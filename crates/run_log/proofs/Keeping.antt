@@ -8,10 +8,9 @@ use Rattle.bit_field.specs.declared.shapes.Shape.{Shape}
 use Rattle.cyc_machine.specs.Cycle.{cycle, cycled, end_in, event_in, put_in, retires}
 use Rattle.cyc_machine.specs.Run.{IsRunning, clocks_after, clocks_below, cycle_if, events_after, events_below, issues, issues_after, issues_below, issues_clock, output_after, output_below, retired_after, retired_below, state_after, state_at, with_one}
 use Rattle.cyc_machine.specs.State.{State, reset}
-use Rattle.run_record.specs.Journals.{IsEmpty, closed}
+use Rattle.run_record.specs.Journals.{Adds, IsEmpty, closed, entry_of}
 use Rattle.run_record.specs.Run.{IsRecord}
 use Rattle.run_record.specs.declared.journal.Journal.{Journal}
-use Rattle.run_log.specs.Cycles.{IsWritten}
 
 -- the machine and the journal before cycle t, no end having come
 pub record Kept (image : LoadedImage) (shape : Shape) (t : ℕ) (machine : State) (journal : Journal) : Type 0 where
@@ -59,7 +58,7 @@ running_more image shape t none running u l = elim (last u l) as (λ _. end_in (
     last v l = grind arith
 
 -- The lists after one more cycle.
-module _ (image : LoadedImage) (shape : Shape) (t : ℕ) (s : State) (old new : Journal) (kept : Kept image shape t s old) (written : IsWritten s old new) where
+module _ (image : LoadedImage) (shape : Shape) (t : ℕ) (s : State) (old new : Journal) (kept : Kept image shape t s old) (written : Adds (entry_of s) old new) where
   output_next : new.output.items ≡ output_below image shape (suc t)
   unfolding output_after
   output_next = written.output ∙ with_one-same _ _ _ _ kept.output (ap put_in kept.state)
@@ -70,7 +69,7 @@ module _ (image : LoadedImage) (shape : Shape) (t : ℕ) (s : State) (old new : 
 
   issues_next : new.issues.items ≡ issues_below image shape (suc t)
   unfolding issues_after
-  issues_next = written.issues_at ∙ with_one-same _ _ _ _ kept.issues_at (ap (λ (x : State). cycle_if (issues x) x) kept.state)
+  issues_next = written.issues ∙ with_one-same _ _ _ _ kept.issues_at (ap (λ (x : State). cycle_if (issues x) x) kept.state)
 
   clocks_next : new.clocks.items ≡ clocks_below image shape (suc t)
   unfolding clocks_after

@@ -15,7 +15,8 @@ use Rattle.run_record.specs.Run.{IsRecord, RecordedRun}
 ends_same : (image : LoadedImage) (clocks other : List ℕ) (n m : ℕ) (end : End) (output bytes : List ℕ) → clocks ≡ other → n ≡ m → output ≡ bytes → EndsAfter image other m end bytes → EndsAfter image clocks n end output
 ends_same image clocks other n m end output bytes e f g h = rw (e, f, g) h
 
-program : (r : RecordedRun) → RunLaw r.image r.shape → IsRecord r → EndsAfter r.image r.clocks r.instructions r.end r.output
+-- a record is the instruction set's run
+pub program : (r : RecordedRun) → RunLaw r.image r.shape → IsRecord r → EndsAfter r.image r.clocks r.instructions r.end r.output
 program r law is =
     let cycles : r.cycles ≡ suc is.last = omega (arith, is.cycles) in
     ends_same r.image r.clocks (clocks_below r.image r.shape (suc is.last)) r.instructions (retired_below r.image r.shape (suc is.last)) r.end r.output (output_below r.image r.shape (suc is.last))
@@ -40,10 +41,7 @@ few r is = let below = few_below r.image r.shape r.cycles in omega (arith, is.in
 -- the record of a run that was written down to its end
 pub is_run : (image : LoadedImage) (shape : Shape) (budget cycles : ℕ) (end : End) (journal : Journal) → RunLaw image shape → IsRecord (closed image shape cycles end journal) → cycles ≤ budget → IsRunOf image shape budget (closed image shape cycles end journal)
 is_run image shape budget cycles end journal law is within = record {
-  image_is = refl;
-  shape_is = refl;
-  within = within;
-  is_record = is;
+  record_of = record { image_is = refl; shape_is = refl; within = within; is_record = is };
   program = program (closed image shape cycles end journal) law is;
   few = few (closed image shape cycles end journal) is;
 }

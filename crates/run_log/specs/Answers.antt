@@ -5,16 +5,14 @@ use Rattle.bit_field.specs.declared.shapes.Shape.{Shape}
 use Rattle.cyc_machine.specs.Run.{IsRunning, clocks_below}
 use Rattle.rv_isa.specs.Runs.{trace_at}
 use Rattle.flush_view.specs.RunLaw.{EndsAfter}
-use Rattle.run_record.specs.Run.{IsRecord, RecordedRun}
+use Rattle.run_record.specs.Run.{RecordedRun}
+use Rattle.run_record.specs.Within.{IsRecordOf}
 use Rattle.run_log.specs.declared.recording.RecordError.{RecordError}
 use Rattle.run_log.specs.declared.recording.RecordError.TheVariants.{NoEnd, OutOfMemory}
 
 -- A record that is the image's run, on the machine and by the instruction set.
 pub record IsRunOf (image : LoadedImage) (shape : Shape) (budget : ℕ) (r : RecordedRun) : Type 0 where
-  pub image_is : r.image ≡ image
-  pub shape_is : r.shape ≡ shape
-  pub within : r.cycles ≤ budget
-  pub is_record : IsRecord r
+  pub record_of : IsRecordOf image shape budget r
   -- With the recorded clock values the instruction set's run has as many instructions, and the same output and end.
   pub program : EndsAfter r.image r.clocks r.instructions r.end r.output
   pub few : r.instructions ≤ r.cycles

@@ -5,7 +5,7 @@
 
 mod recording;
 
-pub use recording::{RecordError, record, record_shaped};
+pub use recording::{LONGEST_RUN, RecordError, record, record_shaped};
 pub use run_record::Recorded;
 
 #[cfg(test)]

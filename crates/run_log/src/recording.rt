@@ -5,8 +5,8 @@ ghost use Rattle.bit_field.specs.Shapes as shapes;
 ghost use Rattle.pipe_latch.specs.Latches as latches;
 ghost use Rattle.rv_table.specs.Actions as rv;
 ghost use Rattle.cyc_machine.specs.Cycle as cycles;
+ghost use Rattle.run_record.specs.Journals.{Adds, entry_of};
 ghost use Rattle.run_log.specs.Answers.{IsRecorded};
-ghost use Rattle.run_log.specs.Cycles.{IsWritten};
 ghost use Rattle.run_log.specs.declared.recording.RecordError.TheVariants.{OutOfMemory as no_memory};
 
 use avf_base::{End, OutOfMemory, Steps};
@@ -19,6 +19,9 @@ use run_record::{Journal, Recorded};
 use rv_table::{Op, is_clocked};
 use std::alloc::{AllocError, Global};
 use std::sync::ledger::Ledger;
+
+/// The greatest budget of a recorded run, in cycles.
+pub const LONGEST_RUN: u32 = 1_000_000;
 
 /// Why a run wasn't recorded.
 #[derive(Clone, Copy, Debug, PartialEq, Eq, thiserror::Error)]
@@ -46,7 +49,7 @@ impl From<OutOfMemory> for RecordError {
     }
 }
 
-/// The run of an image on a machine of the plain shape; `budget` is 1 to 1,000,000 cycles.
+/// The run of an image on a machine of the plain shape; `budget` is 1 to `LONGEST_RUN` cycles.
 pub fn record<'i, L: Ledger>(
     alloc: Global,
     image: &'i Image,
@@ -54,7 +57,7 @@ pub fn record<'i, L: Ledger>(
     steps: &mut Steps<L>,
 ) -> Result<Recorded<'i>, RecordError>
     requires least { 1 ≤ budget }
-    requires most { budget ≤ 1000000 }
+    requires most { budget ≤ LONGEST_RUN }
     requires ram { length image.now.ram ≡ 2 ^ 20 }
     ensures answer { IsRecorded image.now shapes.plain budget result }
     ensures steps { steps.new ≤ steps.old + budget }
@@ -63,7 +66,7 @@ pub fn record<'i, L: Ledger>(
     record_shaped(alloc, image, &plain_shape(), budget, steps)
 }
 
-/// The run of an image on a machine of a shape, whose RAM the image has; `budget` is 1 to 1,000,000 cycles. What is recorded
+/// The run of an image on a machine of a shape, whose RAM the image has; `budget` is 1 to `LONGEST_RUN` cycles. What is recorded
 /// is the instruction set's run, with the clock values that the machine gave.
 pub fn record_shaped<'i, L: Ledger>(
     alloc: Global,
@@ -75,7 +78,7 @@ pub fn record_shaped<'i, L: Ledger>(
     requires shape { IsShape shape.now }
     requires ram { length image.now.ram ≡ shape.now.mib * 2 ^ 20 }
     requires least { 1 ≤ budget }
-    requires most { budget ≤ 1000000 }
+    requires most { budget ≤ LONGEST_RUN }
     ensures answer { IsRecorded image.now shape.now budget result }
     ensures steps { steps.new ≤ steps.old + budget }
     ensures ticks { IfOk result (λ r. steps.new ≡ steps.old + r.cycles) }
@@ -102,7 +105,7 @@ fn run_cycle<L: Ledger>(
     requires retired { journal.old.retired < 2 ^ 31 }
     ensures state { machine.new ≡ cycles.cycle machine.old }
     ensures end { IfOk result (λ end. end ≡ cycles.end_in machine.old) }
-    ensures written { OnOk result (IsWritten machine.old journal.old journal.new) }
+    ensures written { OnOk result (Adds (entry_of machine.old) journal.old journal.new) }
     ensures steps { steps.new ≡ steps.old + 1 }
 {
     let cycle = machine.cycle();

@@ -1,1 +1,5 @@
 pub mod Issued
+pub mod Noted
+pub mod Timed
+pub mod Verdicts
+pub mod Within

@@ -1,2 +1,5 @@
 pub mod Journals
 pub mod Run
+pub mod Times
+pub mod Verdict
+pub mod Within

@@ -1,5 +1,5 @@
 // What is written down cycle by cycle.
-ghost use Rattle.std.specs.Prelude.{◌≡◌, ◌+◌, ◌<◌, ◌^◌, OnOk, ⊤, if◌then◌else◌};
+ghost use Rattle.std.specs.Prelude.{◌≡◌, ◌+◌, ◌<◌, ◌^◌, OnOk};
 ghost use Rattle.cyc_machine.specs.Run.{with_one};
 ghost use Rattle.run_record.specs.Journals.{Adds, IsEmpty};
 ghost use Rattle.run_record.specs.Journals as journals;
@@ -47,15 +47,13 @@ impl Journal {
         reads_clock: bool,
     ) -> Result<(), AllocError>
         requires { self.old.retired < 2 ^ 31 }
-        ensures { OnOk result (Adds report.now cycle reads_clock self.old self.new) }
+        ensures { OnOk result (Adds (journals.entry_by report.now cycle reads_clock) self.old self.new) }
     {
         keep(&mut self.output, report.put)?;
         keep(&mut self.events, report.event)?;
-        keep(&mut self.issues, cycle_if(report.issued.is_some(), cycle))?;
-        keep(
-            &mut self.clocks,
-            cycle_if(report.issued.is_some() && reads_clock, cycle),
-        )?;
+        let issues = report.issued.is_some();
+        keep(&mut self.issues, issues.then_some(cycle))?;
+        keep(&mut self.clocks, (issues && reads_clock).then_some(cycle))?;
         if report.retired {
             self.retired += 1;
         }
@@ -95,11 +93,4 @@ fn keep<T: Drop>(list: &mut Vec<T>, item: Option<T>) -> Result<(), AllocError>
         list.push(item)?;
     }
     Ok(())
-}
-
-// The number of the cycle, where it does something.
-fn cycle_if(does: bool, cycle: u32) -> Option<u32>
-    ensures { result ≡ journals.noted_if does cycle }
-{
-    if does { Some(cycle) } else { None }
 }

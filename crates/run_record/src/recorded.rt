@@ -54,10 +54,12 @@ impl<'i> Model for Recorded<'i> {
 impl<'i> Recorded<'i> {
     ghost use Rattle.std.specs.Prelude.{◌≡◌, ◌<◌, slice_index};
     ghost use Rattle.run_record.specs.Run.{IsRecord};
+    ghost use Rattle.run_record.specs.Times.{IsTimed};
 
-    /// Changes nothing; says that every record is that of its image's run.
+    /// Changes nothing; says that every record is that of its image's run, and what of it lies below a cycle.
     pub fn is_record(&self)
-        ensures { IsRecord self.now }
+        ensures record { IsRecord self.now }
+        ensures timed { IsTimed self.now }
     {
         let _cycles = self.cycles;
     }
@@ -90,18 +92,18 @@ impl<'i> Recorded<'i> {
         self.instructions
     }
 
-    /// The bytes that the program put.
-    pub fn output(&self) -> &[u8]
-        ensures { result.now ≡ self.now.output }
-    {
-        &self.output
-    }
-
     /// How the run ended.
     pub fn end(&self) -> End
         ensures { result ≡ self.now.end }
     {
         self.end
+    }
+
+    /// The bytes that the program put.
+    pub fn output(&self) -> &[u8]
+        ensures { result.now ≡ self.now.output }
+    {
+        &self.output
     }
 
     /// The events of the cache, in order of cycles.

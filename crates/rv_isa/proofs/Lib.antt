@@ -1,5 +1,6 @@
 pub mod Allowed
 pub mod Entries
+pub mod Fetched
 pub mod Follows
 pub mod Lists
 pub mod Memory

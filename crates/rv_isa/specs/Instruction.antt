@@ -6,7 +6,7 @@ use Rattle.avf_base.specs.declared.end.End.TheVariants.{Exit, Trap}
 use Rattle.rv_table.specs.Accesses.{loaded, stored}
 use Rattle.rv_table.specs.Actions.{action, next_address, with_counter, is_clocked}
 use Rattle.rv_table.specs.Effects.{byte_put, written_register}
-use Rattle.rv_table.specs.Words.{decode}
+use Rattle.rv_table.specs.Words.{decode, fetch_fault}
 use Rattle.rv_table.specs.declared.op.Op.{Op}
 use Rattle.rv_table.specs.declared.action.Action.{Action}
 use Rattle.rv_table.specs.declared.action.Action.TheVariants.{Nothing, Writes, Loads, Stores, Exits, Traps}
@@ -106,7 +106,7 @@ completed image op pc a b before =
 -- the operation that is fetched; a word that isn't executable gives the fetch fault
 abbrev pub op_of_word : Option ℕ → Op
 op_of_word (Some word) = decode word
-op_of_word None = record { code = 1; rd = 0; rs1 = 0; rs2 = 0; imm = 0 }
+op_of_word None = fetch_fault
 
 abbrev pub op_at : LoadedImage → ℕ → Op
 op_at image pc = op_of_word (fetch image pc)

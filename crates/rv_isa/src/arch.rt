@@ -14,7 +14,10 @@ use crate::{Effect, Retired};
 use avf_base::{OutOfMemory, Steps};
 use byteorder::{ByteOrder, LittleEndian};
 use elf_load::Image;
-use rv_table::{Access, Action, Op, asked, decode, is_clocked, loaded, next_address, with_counter};
+use rv_table::{
+    Access, Action, FETCH_FAULT_CODE, Op, asked, decode, is_clocked, loaded, next_address,
+    with_counter,
+};
 use std::alloc::Global;
 use std::marker::Model;
 use std::sync::ledger::Ledger;
@@ -118,7 +121,7 @@ impl<'i> Arch<'i> {
         match self.image.fetch(self.pc) {
             Some(word) => decode(word),
             None => Op {
-                code: 1,
+                code: FETCH_FAULT_CODE,
                 rd: 0,
                 rs1: 0,
                 rs2: 0,

@@ -1,7 +1,7 @@
 -- The word of an operation, form by form: it decodes to the operation.
 use Rattle.std.proofs.Common.{◌≡◌, ℕ, ◌+◌, ◌*◌, ◌/◌, ◌%◌, ◌^◌, ◌<◌, ◌&&◌, Bool, true, false, arith, ap, sym, ◌∙◌, refl}
 use Rattle.std.proofs.lemmas.Bool.{ltb-true, eqb-true}
-use Rattle.rv_table.proofs.Codes.{code_of-by}
+use Rattle.rv_table.proofs.CodesOfWords.{code_of-by}
 use Rattle.rv_table.proofs.Fields.{HasFields, fields_of, extended_12, extended_13, extended_21}
 use Rattle.rv_table.proofs.WordTable.{decoded}
 use Rattle.rv_table.specs.Codes.{code_by, code_of, field_bits}

@@ -1,7 +1,7 @@
 -- What the fixed bits of each row tell: they give its code, whatever the other bits are.
 use Rattle.std.proofs.Common.{◌≡◌, ℕ, ◌+◌, ◌*◌, ◌/◌, ◌%◌, ◌^◌, ◌<◌, ◌≢◌, ◌==◌, Bool, true, false, cond, List, [], ◌∷◌, arith, sym, ◌∙◌, refl, lit<, subst}
 use Rattle.std.proofs.lemmas.Bool.{eqb-true, ne_eqb}
-use Rattle.rv_table.proofs.Codes.{code_of-system}
+use Rattle.rv_table.proofs.CodesOfWords.{code_of-system}
 use Rattle.rv_table.specs.Codes.{code_by, code_of, fixed_bits, fixed_word, with_sets}
 use Rattle.rv_table.specs.Operations.{form_of}
 use Rattle.rv_table.specs.Rows.{Row, row_in, row_of, rows}

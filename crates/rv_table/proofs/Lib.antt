@@ -1,5 +1,6 @@
 pub mod Addresses
-pub mod Codes
+pub mod CodesOfWords
+pub mod DecodedFields
 pub mod Encoded
 pub mod Fields
 pub mod Formed

@@ -16,6 +16,10 @@ use Rattle.rv_table.specs.declared.row.InstructionRow.{InstructionRow}
 use Rattle.rv_table.specs.declared.row.Pattern.{Pattern}
 use Rattle.rv_table.specs.declared.row.Pattern.TheVariants.{NoWord, Opcode, Funct3, Funct7, Word, WordButRd}
 use Rattle.rv_table.specs.declared.row.TheConstants.{MULTIPLY_DELAY, DIVIDE_DELAY}
+use Rattle.rv_table.specs.declared.codes.TheConstants.{LUI, AUIPC, JAL, JALR, BEQ, BNE, BLT, BGE, BLTU, BGEU, LB, LH, LW, LBU}
+use Rattle.rv_table.specs.declared.codes.TheConstants.{LHU, SB, SH, SW, ADDI, SLTI, SLTIU, XORI, ORI, ANDI, SLLI, SRLI, SRAI, ADD}
+use Rattle.rv_table.specs.declared.codes.TheConstants.{SUB, SLL, SLT, SLTU, XOR, SRL, SRA, OR, AND, MUL, MULH, MULHSU, MULHU, DIV}
+use Rattle.rv_table.specs.declared.codes.TheConstants.{DIVU, REM, REMU, FENCE, ECALL, EBREAK, RDCYCLE, RDINSTRET, RDCYCLEH, RDINSTRETH}
 use Rattle.rv_table.specs.declared.op.TheConstants.{ILLEGAL_CODE, FETCH_FAULT_CODE}
 
 pub record Row : Type 0 where
@@ -39,58 +43,58 @@ abbrev pub rows : List Row
 rows =
     illegal_row ∷
     row FETCH_FAULT_CODE (codes "fault") NoWord NoFields FetchFault 0 ∷
-    row 2 (codes "lui") (Opcode 0x37) U Lui 0 ∷
-    row 3 (codes "auipc") (Opcode 0x17) U Auipc 0 ∷
-    row 4 (codes "jal") (Opcode 0x6F) J Jal 0 ∷
-    row 5 (codes "jalr") (Funct3 0x67 0) I Jalr 0 ∷
-    row 6 (codes "beq") (Funct3 0x63 0) B (Branch Beq) 0 ∷
-    row 7 (codes "bne") (Funct3 0x63 1) B (Branch Bne) 0 ∷
-    row 8 (codes "blt") (Funct3 0x63 4) B (Branch Blt) 0 ∷
-    row 9 (codes "bge") (Funct3 0x63 5) B (Branch Bge) 0 ∷
-    row 10 (codes "bltu") (Funct3 0x63 6) B (Branch Bltu) 0 ∷
-    row 11 (codes "bgeu") (Funct3 0x63 7) B (Branch Bgeu) 0 ∷
-    row 12 (codes "lb") (Funct3 0x03 0) I (Load Lb) 0 ∷
-    row 13 (codes "lh") (Funct3 0x03 1) I (Load Lh) 0 ∷
-    row 14 (codes "lw") (Funct3 0x03 2) I (Load Lw) 0 ∷
-    row 15 (codes "lbu") (Funct3 0x03 4) I (Load Lbu) 0 ∷
-    row 16 (codes "lhu") (Funct3 0x03 5) I (Load Lhu) 0 ∷
-    row 17 (codes "sb") (Funct3 0x23 0) S (Store Sb) 0 ∷
-    row 18 (codes "sh") (Funct3 0x23 1) S (Store Sh) 0 ∷
-    row 19 (codes "sw") (Funct3 0x23 2) S (Store Sw) 0 ∷
-    row 20 (codes "addi") (Funct3 0x13 0) I (AluImmediate Add) 0 ∷
-    row 21 (codes "slti") (Funct3 0x13 2) I (AluImmediate Slt) 0 ∷
-    row 22 (codes "sltiu") (Funct3 0x13 3) I (AluImmediate Sltu) 0 ∷
-    row 23 (codes "xori") (Funct3 0x13 4) I (AluImmediate Xor) 0 ∷
-    row 24 (codes "ori") (Funct3 0x13 6) I (AluImmediate Or) 0 ∷
-    row 25 (codes "andi") (Funct3 0x13 7) I (AluImmediate And) 0 ∷
-    row 26 (codes "slli") (Funct7 0x13 1 0x00) Shift (AluImmediate Sll) 0 ∷
-    row 27 (codes "srli") (Funct7 0x13 5 0x00) Shift (AluImmediate Srl) 0 ∷
-    row 28 (codes "srai") (Funct7 0x13 5 0x20) Shift (AluImmediate Sra) 0 ∷
-    row 29 (codes "add") (Funct7 0x33 0 0x00) R (Alu Add) 0 ∷
-    row 30 (codes "sub") (Funct7 0x33 0 0x20) R (Alu Sub) 0 ∷
-    row 31 (codes "sll") (Funct7 0x33 1 0x00) R (Alu Sll) 0 ∷
-    row 32 (codes "slt") (Funct7 0x33 2 0x00) R (Alu Slt) 0 ∷
-    row 33 (codes "sltu") (Funct7 0x33 3 0x00) R (Alu Sltu) 0 ∷
-    row 34 (codes "xor") (Funct7 0x33 4 0x00) R (Alu Xor) 0 ∷
-    row 35 (codes "srl") (Funct7 0x33 5 0x00) R (Alu Srl) 0 ∷
-    row 36 (codes "sra") (Funct7 0x33 5 0x20) R (Alu Sra) 0 ∷
-    row 37 (codes "or") (Funct7 0x33 6 0x00) R (Alu Or) 0 ∷
-    row 38 (codes "and") (Funct7 0x33 7 0x00) R (Alu And) 0 ∷
-    row 39 (codes "mul") (Funct7 0x33 0 0x01) R (Alu Mul) MULTIPLY_DELAY ∷
-    row 40 (codes "mulh") (Funct7 0x33 1 0x01) R (Alu Mulh) MULTIPLY_DELAY ∷
-    row 41 (codes "mulhsu") (Funct7 0x33 2 0x01) R (Alu Mulhsu) MULTIPLY_DELAY ∷
-    row 42 (codes "mulhu") (Funct7 0x33 3 0x01) R (Alu Mulhu) MULTIPLY_DELAY ∷
-    row 43 (codes "div") (Funct7 0x33 4 0x01) R (Alu Div) DIVIDE_DELAY ∷
-    row 44 (codes "divu") (Funct7 0x33 5 0x01) R (Alu Divu) DIVIDE_DELAY ∷
-    row 45 (codes "rem") (Funct7 0x33 6 0x01) R (Alu Rem) DIVIDE_DELAY ∷
-    row 46 (codes "remu") (Funct7 0x33 7 0x01) R (Alu Remu) DIVIDE_DELAY ∷
-    row 47 (codes "fence") (Funct3 0x0F 0) NoFields Fence 0 ∷
-    row 48 (codes "ecall") (Word 0x00000073) Call Ecall 0 ∷
-    row 49 (codes "ebreak") (Word 0x00100073) NoFields Ebreak 0 ∷
-    row 50 (codes "rdcycle") (WordButRd 0xC0002073) Counter (ReadCounter Cycle) 0 ∷
-    row 51 (codes "rdinstret") (WordButRd 0xC0202073) Counter (ReadCounter Instret) 0 ∷
-    row 52 (codes "rdcycleh") (WordButRd 0xC8002073) Counter (ReadCounter Cycleh) 0 ∷
-    row 53 (codes "rdinstreth") (WordButRd 0xC8202073) Counter (ReadCounter Instreth) 0 ∷
+    row LUI (codes "lui") (Opcode 0x37) U Lui 0 ∷
+    row AUIPC (codes "auipc") (Opcode 0x17) U Auipc 0 ∷
+    row JAL (codes "jal") (Opcode 0x6F) J Jal 0 ∷
+    row JALR (codes "jalr") (Funct3 0x67 0) I Jalr 0 ∷
+    row BEQ (codes "beq") (Funct3 0x63 0) B (Branch Beq) 0 ∷
+    row BNE (codes "bne") (Funct3 0x63 1) B (Branch Bne) 0 ∷
+    row BLT (codes "blt") (Funct3 0x63 4) B (Branch Blt) 0 ∷
+    row BGE (codes "bge") (Funct3 0x63 5) B (Branch Bge) 0 ∷
+    row BLTU (codes "bltu") (Funct3 0x63 6) B (Branch Bltu) 0 ∷
+    row BGEU (codes "bgeu") (Funct3 0x63 7) B (Branch Bgeu) 0 ∷
+    row LB (codes "lb") (Funct3 0x03 0) I (Load Lb) 0 ∷
+    row LH (codes "lh") (Funct3 0x03 1) I (Load Lh) 0 ∷
+    row LW (codes "lw") (Funct3 0x03 2) I (Load Lw) 0 ∷
+    row LBU (codes "lbu") (Funct3 0x03 4) I (Load Lbu) 0 ∷
+    row LHU (codes "lhu") (Funct3 0x03 5) I (Load Lhu) 0 ∷
+    row SB (codes "sb") (Funct3 0x23 0) S (Store Sb) 0 ∷
+    row SH (codes "sh") (Funct3 0x23 1) S (Store Sh) 0 ∷
+    row SW (codes "sw") (Funct3 0x23 2) S (Store Sw) 0 ∷
+    row ADDI (codes "addi") (Funct3 0x13 0) I (AluImmediate Add) 0 ∷
+    row SLTI (codes "slti") (Funct3 0x13 2) I (AluImmediate Slt) 0 ∷
+    row SLTIU (codes "sltiu") (Funct3 0x13 3) I (AluImmediate Sltu) 0 ∷
+    row XORI (codes "xori") (Funct3 0x13 4) I (AluImmediate Xor) 0 ∷
+    row ORI (codes "ori") (Funct3 0x13 6) I (AluImmediate Or) 0 ∷
+    row ANDI (codes "andi") (Funct3 0x13 7) I (AluImmediate And) 0 ∷
+    row SLLI (codes "slli") (Funct7 0x13 1 0x00) Shift (AluImmediate Sll) 0 ∷
+    row SRLI (codes "srli") (Funct7 0x13 5 0x00) Shift (AluImmediate Srl) 0 ∷
+    row SRAI (codes "srai") (Funct7 0x13 5 0x20) Shift (AluImmediate Sra) 0 ∷
+    row ADD (codes "add") (Funct7 0x33 0 0x00) R (Alu Add) 0 ∷
+    row SUB (codes "sub") (Funct7 0x33 0 0x20) R (Alu Sub) 0 ∷
+    row SLL (codes "sll") (Funct7 0x33 1 0x00) R (Alu Sll) 0 ∷
+    row SLT (codes "slt") (Funct7 0x33 2 0x00) R (Alu Slt) 0 ∷
+    row SLTU (codes "sltu") (Funct7 0x33 3 0x00) R (Alu Sltu) 0 ∷
+    row XOR (codes "xor") (Funct7 0x33 4 0x00) R (Alu Xor) 0 ∷
+    row SRL (codes "srl") (Funct7 0x33 5 0x00) R (Alu Srl) 0 ∷
+    row SRA (codes "sra") (Funct7 0x33 5 0x20) R (Alu Sra) 0 ∷
+    row OR (codes "or") (Funct7 0x33 6 0x00) R (Alu Or) 0 ∷
+    row AND (codes "and") (Funct7 0x33 7 0x00) R (Alu And) 0 ∷
+    row MUL (codes "mul") (Funct7 0x33 0 0x01) R (Alu Mul) MULTIPLY_DELAY ∷
+    row MULH (codes "mulh") (Funct7 0x33 1 0x01) R (Alu Mulh) MULTIPLY_DELAY ∷
+    row MULHSU (codes "mulhsu") (Funct7 0x33 2 0x01) R (Alu Mulhsu) MULTIPLY_DELAY ∷
+    row MULHU (codes "mulhu") (Funct7 0x33 3 0x01) R (Alu Mulhu) MULTIPLY_DELAY ∷
+    row DIV (codes "div") (Funct7 0x33 4 0x01) R (Alu Div) DIVIDE_DELAY ∷
+    row DIVU (codes "divu") (Funct7 0x33 5 0x01) R (Alu Divu) DIVIDE_DELAY ∷
+    row REM (codes "rem") (Funct7 0x33 6 0x01) R (Alu Rem) DIVIDE_DELAY ∷
+    row REMU (codes "remu") (Funct7 0x33 7 0x01) R (Alu Remu) DIVIDE_DELAY ∷
+    row FENCE (codes "fence") (Funct3 0x0F 0) NoFields Fence 0 ∷
+    row ECALL (codes "ecall") (Word 0x00000073) Call Ecall 0 ∷
+    row EBREAK (codes "ebreak") (Word 0x00100073) NoFields Ebreak 0 ∷
+    row RDCYCLE (codes "rdcycle") (WordButRd 0xC0002073) Counter (ReadCounter Cycle) 0 ∷
+    row RDINSTRET (codes "rdinstret") (WordButRd 0xC0202073) Counter (ReadCounter Instret) 0 ∷
+    row RDCYCLEH (codes "rdcycleh") (WordButRd 0xC8002073) Counter (ReadCounter Cycleh) 0 ∷
+    row RDINSTRETH (codes "rdinstreth") (WordButRd 0xC8202073) Counter (ReadCounter Instreth) 0 ∷
     []
 
 -- whether a row has words

@@ -21,7 +21,7 @@ pub fn decode(word: u32) -> Op
     form_of(code).fields(code, word)
 }
 
-#[tactic(auto, using(crate::proofs::Codes::groups))]
+#[tactic(auto, using(crate::proofs::CodesOfWords::groups))]
 /// The code of a word.
 fn code_of(word: u32) -> u8
     ensures { result ≡ code_of word }

@@ -1,8 +1,9 @@
 // The instructions of RV32IM with the four counter reads: the word table, the arithmetic, and what an
 // instruction asks for, from its operands alone.
 //
-// `operation` names what a code means and `op` is a decoded instruction. `form` has the forms of the words,
-// `decoding` leads from a word to the operation, `encoding` back, and `spelling` is the assembler's text.
+// `row` is the word table, one row for each instruction, whose codes `codes` names. `operation` says what an instruction
+// does and `op` is a decoded one. `form` has the forms of the words, `decoding` leads from a word to the operation,
+// `encoding` back, and `spelling` is the assembler's text. `trap` names the traps.
 // `arithmetic` and `execution` compute results and targets, `action` is what an instruction does besides going on,
 // and `access` which bytes of memory that concerns.
 #![tactic(auto)]
@@ -10,6 +11,7 @@
 mod access;
 mod action;
 mod arithmetic;
+pub mod codes;
 mod decoding;
 mod encoding;
 mod execution;
@@ -33,7 +35,7 @@ pub use row::{
     DIVIDE_DELAY, InstructionRow, MULTIPLY_DELAY, Pattern, all_rows, delay_of, form_of, has_row,
     operation_of, row_named, row_of, table_law,
 };
-pub use spelling::{OutOfMemory, text};
+pub use spelling::{OutOfMemory, register_name, text};
 
 #[cfg(test)]
 mod tests;

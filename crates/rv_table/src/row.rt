@@ -20,6 +20,7 @@ use crate::Operation::{
     Lui, ReadCounter, Store,
 };
 use crate::StoreKind::{Sb, Sh, Sw};
+use crate::codes;
 use crate::op::{FETCH_FAULT_CODE, ILLEGAL_CODE};
 use crate::{Form, Operation};
 
@@ -101,58 +102,58 @@ macro_rules! instruction_rows {
 static ROWS: [InstructionRow; 54] = instruction_rows! {
     ILLEGAL_CODE, "illegal", NoWord, NoFields, Illegal, 0;
     FETCH_FAULT_CODE, "fault", NoWord, NoFields, FetchFault, 0;
-    2, "lui", Opcode(0x37), U, Lui, 0;
-    3, "auipc", Opcode(0x17), U, Auipc, 0;
-    4, "jal", Opcode(0x6F), J, Jal, 0;
-    5, "jalr", Funct3(0x67, 0), I, Jalr, 0;
-    6, "beq", Funct3(0x63, 0), B, Branch(Beq), 0;
-    7, "bne", Funct3(0x63, 1), B, Branch(Bne), 0;
-    8, "blt", Funct3(0x63, 4), B, Branch(Blt), 0;
-    9, "bge", Funct3(0x63, 5), B, Branch(Bge), 0;
-    10, "bltu", Funct3(0x63, 6), B, Branch(Bltu), 0;
-    11, "bgeu", Funct3(0x63, 7), B, Branch(Bgeu), 0;
-    12, "lb", Funct3(0x03, 0), I, Load(Lb), 0;
-    13, "lh", Funct3(0x03, 1), I, Load(Lh), 0;
-    14, "lw", Funct3(0x03, 2), I, Load(Lw), 0;
-    15, "lbu", Funct3(0x03, 4), I, Load(Lbu), 0;
-    16, "lhu", Funct3(0x03, 5), I, Load(Lhu), 0;
-    17, "sb", Funct3(0x23, 0), S, Store(Sb), 0;
-    18, "sh", Funct3(0x23, 1), S, Store(Sh), 0;
-    19, "sw", Funct3(0x23, 2), S, Store(Sw), 0;
-    20, "addi", Funct3(0x13, 0), I, AluImmediate(Add), 0;
-    21, "slti", Funct3(0x13, 2), I, AluImmediate(Slt), 0;
-    22, "sltiu", Funct3(0x13, 3), I, AluImmediate(Sltu), 0;
-    23, "xori", Funct3(0x13, 4), I, AluImmediate(Xor), 0;
-    24, "ori", Funct3(0x13, 6), I, AluImmediate(Or), 0;
-    25, "andi", Funct3(0x13, 7), I, AluImmediate(And), 0;
-    26, "slli", Funct7(0x13, 1, 0x00), Shift, AluImmediate(Sll), 0;
-    27, "srli", Funct7(0x13, 5, 0x00), Shift, AluImmediate(Srl), 0;
-    28, "srai", Funct7(0x13, 5, 0x20), Shift, AluImmediate(Sra), 0;
-    29, "add", Funct7(0x33, 0, 0x00), R, Alu(Add), 0;
-    30, "sub", Funct7(0x33, 0, 0x20), R, Alu(Sub), 0;
-    31, "sll", Funct7(0x33, 1, 0x00), R, Alu(Sll), 0;
-    32, "slt", Funct7(0x33, 2, 0x00), R, Alu(Slt), 0;
-    33, "sltu", Funct7(0x33, 3, 0x00), R, Alu(Sltu), 0;
-    34, "xor", Funct7(0x33, 4, 0x00), R, Alu(Xor), 0;
-    35, "srl", Funct7(0x33, 5, 0x00), R, Alu(Srl), 0;
-    36, "sra", Funct7(0x33, 5, 0x20), R, Alu(Sra), 0;
-    37, "or", Funct7(0x33, 6, 0x00), R, Alu(Or), 0;
-    38, "and", Funct7(0x33, 7, 0x00), R, Alu(And), 0;
-    39, "mul", Funct7(0x33, 0, 0x01), R, Alu(Mul), MULTIPLY_DELAY;
-    40, "mulh", Funct7(0x33, 1, 0x01), R, Alu(Mulh), MULTIPLY_DELAY;
-    41, "mulhsu", Funct7(0x33, 2, 0x01), R, Alu(Mulhsu), MULTIPLY_DELAY;
-    42, "mulhu", Funct7(0x33, 3, 0x01), R, Alu(Mulhu), MULTIPLY_DELAY;
-    43, "div", Funct7(0x33, 4, 0x01), R, Alu(Div), DIVIDE_DELAY;
-    44, "divu", Funct7(0x33, 5, 0x01), R, Alu(Divu), DIVIDE_DELAY;
-    45, "rem", Funct7(0x33, 6, 0x01), R, Alu(Rem), DIVIDE_DELAY;
-    46, "remu", Funct7(0x33, 7, 0x01), R, Alu(Remu), DIVIDE_DELAY;
-    47, "fence", Funct3(0x0F, 0), NoFields, Fence, 0;
-    48, "ecall", Word(0x0000_0073), Call, Ecall, 0;
-    49, "ebreak", Word(0x0010_0073), NoFields, Ebreak, 0;
-    50, "rdcycle", WordButRd(0xC000_2073), Counter, ReadCounter(Cycle), 0;
-    51, "rdinstret", WordButRd(0xC020_2073), Counter, ReadCounter(Instret), 0;
-    52, "rdcycleh", WordButRd(0xC800_2073), Counter, ReadCounter(Cycleh), 0;
-    53, "rdinstreth", WordButRd(0xC820_2073), Counter, ReadCounter(Instreth), 0;
+    codes::LUI, "lui", Opcode(0x37), U, Lui, 0;
+    codes::AUIPC, "auipc", Opcode(0x17), U, Auipc, 0;
+    codes::JAL, "jal", Opcode(0x6F), J, Jal, 0;
+    codes::JALR, "jalr", Funct3(0x67, 0), I, Jalr, 0;
+    codes::BEQ, "beq", Funct3(0x63, 0), B, Branch(Beq), 0;
+    codes::BNE, "bne", Funct3(0x63, 1), B, Branch(Bne), 0;
+    codes::BLT, "blt", Funct3(0x63, 4), B, Branch(Blt), 0;
+    codes::BGE, "bge", Funct3(0x63, 5), B, Branch(Bge), 0;
+    codes::BLTU, "bltu", Funct3(0x63, 6), B, Branch(Bltu), 0;
+    codes::BGEU, "bgeu", Funct3(0x63, 7), B, Branch(Bgeu), 0;
+    codes::LB, "lb", Funct3(0x03, 0), I, Load(Lb), 0;
+    codes::LH, "lh", Funct3(0x03, 1), I, Load(Lh), 0;
+    codes::LW, "lw", Funct3(0x03, 2), I, Load(Lw), 0;
+    codes::LBU, "lbu", Funct3(0x03, 4), I, Load(Lbu), 0;
+    codes::LHU, "lhu", Funct3(0x03, 5), I, Load(Lhu), 0;
+    codes::SB, "sb", Funct3(0x23, 0), S, Store(Sb), 0;
+    codes::SH, "sh", Funct3(0x23, 1), S, Store(Sh), 0;
+    codes::SW, "sw", Funct3(0x23, 2), S, Store(Sw), 0;
+    codes::ADDI, "addi", Funct3(0x13, 0), I, AluImmediate(Add), 0;
+    codes::SLTI, "slti", Funct3(0x13, 2), I, AluImmediate(Slt), 0;
+    codes::SLTIU, "sltiu", Funct3(0x13, 3), I, AluImmediate(Sltu), 0;
+    codes::XORI, "xori", Funct3(0x13, 4), I, AluImmediate(Xor), 0;
+    codes::ORI, "ori", Funct3(0x13, 6), I, AluImmediate(Or), 0;
+    codes::ANDI, "andi", Funct3(0x13, 7), I, AluImmediate(And), 0;
+    codes::SLLI, "slli", Funct7(0x13, 1, 0x00), Shift, AluImmediate(Sll), 0;
+    codes::SRLI, "srli", Funct7(0x13, 5, 0x00), Shift, AluImmediate(Srl), 0;
+    codes::SRAI, "srai", Funct7(0x13, 5, 0x20), Shift, AluImmediate(Sra), 0;
+    codes::ADD, "add", Funct7(0x33, 0, 0x00), R, Alu(Add), 0;
+    codes::SUB, "sub", Funct7(0x33, 0, 0x20), R, Alu(Sub), 0;
+    codes::SLL, "sll", Funct7(0x33, 1, 0x00), R, Alu(Sll), 0;
+    codes::SLT, "slt", Funct7(0x33, 2, 0x00), R, Alu(Slt), 0;
+    codes::SLTU, "sltu", Funct7(0x33, 3, 0x00), R, Alu(Sltu), 0;
+    codes::XOR, "xor", Funct7(0x33, 4, 0x00), R, Alu(Xor), 0;
+    codes::SRL, "srl", Funct7(0x33, 5, 0x00), R, Alu(Srl), 0;
+    codes::SRA, "sra", Funct7(0x33, 5, 0x20), R, Alu(Sra), 0;
+    codes::OR, "or", Funct7(0x33, 6, 0x00), R, Alu(Or), 0;
+    codes::AND, "and", Funct7(0x33, 7, 0x00), R, Alu(And), 0;
+    codes::MUL, "mul", Funct7(0x33, 0, 0x01), R, Alu(Mul), MULTIPLY_DELAY;
+    codes::MULH, "mulh", Funct7(0x33, 1, 0x01), R, Alu(Mulh), MULTIPLY_DELAY;
+    codes::MULHSU, "mulhsu", Funct7(0x33, 2, 0x01), R, Alu(Mulhsu), MULTIPLY_DELAY;
+    codes::MULHU, "mulhu", Funct7(0x33, 3, 0x01), R, Alu(Mulhu), MULTIPLY_DELAY;
+    codes::DIV, "div", Funct7(0x33, 4, 0x01), R, Alu(Div), DIVIDE_DELAY;
+    codes::DIVU, "divu", Funct7(0x33, 5, 0x01), R, Alu(Divu), DIVIDE_DELAY;
+    codes::REM, "rem", Funct7(0x33, 6, 0x01), R, Alu(Rem), DIVIDE_DELAY;
+    codes::REMU, "remu", Funct7(0x33, 7, 0x01), R, Alu(Remu), DIVIDE_DELAY;
+    codes::FENCE, "fence", Funct3(0x0F, 0), NoFields, Fence, 0;
+    codes::ECALL, "ecall", Word(0x0000_0073), Call, Ecall, 0;
+    codes::EBREAK, "ebreak", Word(0x0010_0073), NoFields, Ebreak, 0;
+    codes::RDCYCLE, "rdcycle", WordButRd(0xC000_2073), Counter, ReadCounter(Cycle), 0;
+    codes::RDINSTRET, "rdinstret", WordButRd(0xC020_2073), Counter, ReadCounter(Instret), 0;
+    codes::RDCYCLEH, "rdcycleh", WordButRd(0xC800_2073), Counter, ReadCounter(Cycleh), 0;
+    codes::RDINSTRETH, "rdinstreth", WordButRd(0xC820_2073), Counter, ReadCounter(Instreth), 0;
 };
 
 /// The rows of the table, in the order of their codes.
@@ -177,23 +178,23 @@ pub fn row_of(code: u8) -> &'static InstructionRow
 }
 
 /// The row of the instruction that the assembler calls `name`; none where no instruction has that name.
-pub fn row_named(name: &str) -> Option<&'static InstructionRow>
+pub fn row_named(name: &[u8]) -> Option<&'static InstructionRow>
     ensures { option_map shown (option_copied result) ≡ spec.row_named name.now }
 {
     first_named(all_rows(), name)
 }
 
 /// The first of these rows that the assembler calls `name`.
-fn first_named<'a>(rows: &'a [InstructionRow], name: &str) -> Option<&'a InstructionRow>
+fn first_named<'a>(rows: &'a [InstructionRow], name: &[u8]) -> Option<&'a InstructionRow>
     ensures { option_copied result ≡ find (λ row. spec.is_named name.now (shown row)) rows.now }
 {
     rows.iter().find(|row| is_named(row, name))
 }
 
-fn is_named(row: &InstructionRow, name: &str) -> bool
+fn is_named(row: &InstructionRow, name: &[u8]) -> bool
     ensures { result ≡ spec.is_named name.now (shown row.now) }
 {
-    row.fixed.has_word() && row.mnemonic == name
+    row.fixed.has_word() && row.mnemonic.as_bytes() == name
 }
 
 #[tactic(auto, unfolding(crate::specs::Operations::operation_of))]

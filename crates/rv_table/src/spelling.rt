@@ -135,8 +135,8 @@ fn register_names() -> &'static [&'static str]
 }
 
 #[tactic(auto, using(crate::proofs::Spelled::naming))]
-/// The name of a register.
-fn register_name(register: u8) -> &'static str
+/// The name of a register, 0 to 31, as the assembler has it.
+pub fn register_name(register: u8) -> &'static str
     requires { register < 32 }
     ensures { result.now ≡ register_name register }
 {

@@ -1,3 +1,4 @@
-pub mod FlipLaws
+pub mod BufferLaws
+pub mod EntryLaws
 pub mod Packed
 pub mod Youngest

@@ -1,4 +1,5 @@
-pub mod Bits
+pub mod BufferBits
 pub mod Covers
 pub mod Entry
+pub mod EntryBits
 pub mod Pending

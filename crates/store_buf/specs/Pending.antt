@@ -1,6 +1,7 @@
 -- The stores that wait in the buffer, whatever its slots hold.
 use Rattle.std.specs.Prelude.{ℕ, ◌-◌, ◌==◌, Bool, not, List, [], ◌∷◌, ◌++◌, length, filter, replicate, slice_index_or, Option, Some, None}
 use Rattle.store_buf.specs.Entry.{Entry, no_entry}
+use Rattle.store_buf.specs.declared.buffer.TheConstants.{SLOTS}
 
 abbrev pub is_pending : Entry → Bool
 is_pending e = not (e.mask == 0)
@@ -11,7 +12,7 @@ pending slots = filter is_pending slots
 
 -- the four slots with a list of stores in front and free slots behind them
 abbrev pub packed : List Entry → List Entry
-packed stores = stores ++ replicate (4 - length stores) no_entry
+packed stores = stores ++ replicate (SLOTS - length stores) no_entry
 
 abbrev pub slot_of : List Entry → ℕ → Entry
 slot_of slots k = slice_index_or slots k no_entry

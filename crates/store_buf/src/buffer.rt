@@ -6,53 +6,57 @@ ghost use Rattle.store_buf.specs.Pending.{pending, packed, slot_of, oldest, youn
 ghost use Rattle.store_buf.specs.Covers.{found, is_found, is_missing, all_found, none_found, byte_found, word_found, covered};
 
 use crate::cover::Cover;
-use crate::pending::{Pending, free_slot};
-use bit_field::{Struck, has_lane};
+use crate::pending::{Pending, SLOT_BITS, free_slot};
+use bit_field::{SB_BITS, Struck, has_lane};
 use std::marker::Model;
 
+/// The number of slots.
+pub const SLOTS: usize = 4;
+
 /// Four slots for stores that wait for the cache. Contracts see them as a list, in which free slots may stand between the
-/// others, since a strike can make any. 264 bits can be struck: slot k from bit 66 k.
+/// others, since a strike can make any. The bits of its slots stand one slot after another.
 #[derive(Clone, Copy)]
 pub struct StoreBuf {
-    slots: [Pending; 4],
+    slots: [Pending; SLOTS],
 }
 
 impl Model for StoreBuf {
     ghost use Rattle.std.specs.Prelude.{◌≡◌, List, length};
+    ghost use Rattle.store_buf.specs.declared.buffer.TheConstants.{SLOTS};
     ghost use Rattle.store_buf.specs.Entry.{Entry};
 
     ghost Value = { List Entry };
 
     ghost view = { λ x. x.slots };
 
-    ghost invariant = { λ x. length x.slots ≡ 4 };
+    ghost invariant = { λ x. length x.slots ≡ SLOTS };
 
     ghost inverse = { λ xs. record { slots = xs } };
 }
 
 impl Struck for StoreBuf {
-    ghost use Rattle.store_buf.specs.Bits as spec;
+    ghost use Rattle.store_buf.specs.BufferBits as spec;
 
     ghost IsFit = { spec.IsFit };
 
-    ghost bit_count = { λ _. 264 };
+    ghost bit_count = { λ _. spec.bit_count };
 
     ghost bit_of = { spec.bit_of };
 
     ghost flipped = { spec.flipped };
 
     fn bits(&self) -> u32 {
-        264
+        SB_BITS
     }
 
     fn bit(&self, k: u32) -> bool {
-        let slot = &self.slots[(k / 66) as usize];
-        slot.bit(k % 66)
+        let slot = &self.slots[(k / SLOT_BITS) as usize];
+        slot.bit(k % SLOT_BITS)
     }
 
     fn flip(&mut self, k: u32) {
-        let slot = &mut self.slots[(k / 66) as usize];
-        slot.flip(k % 66);
+        let slot = &mut self.slots[(k / SLOT_BITS) as usize];
+        slot.flip(k % SLOT_BITS);
     }
 
     fn fits(&self) {
@@ -76,7 +80,7 @@ impl StoreBuf {
 
     /// Slot `k`, 0 to 3, as it stands.
     pub fn slot(&self, k: u32) -> Pending
-        requires { k < 4 }
+        requires { k < SLOTS }
         ensures { result ≡ slot_of self.now k }
     {
         self.slots[k as usize]
@@ -121,7 +125,7 @@ impl StoreBuf {
     /// Appends a store as the youngest. The pending stores then stand in the first slots in their order, and all other slots
     /// are free.
     pub fn push(&mut self, p: Pending)
-        requires room { length (pending self.old) < 4 }
+        requires room { length (pending self.old) < SLOTS }
         requires pending { 0 < p.mask }
         ensures { self.new ≡ packed (pending self.old ++ p ∷ []) }
     {
@@ -228,15 +232,15 @@ impl StoreBuf {
     }
 }
 
-fn free_slots() -> [Pending; 4]
+fn free_slots() -> [Pending; SLOTS]
     ensures { result ≡ packed [] }
 {
-    [free_slot(); 4]
+    [free_slot(); SLOTS]
 }
 
 // The pending stores moved to the first slots, in their order.
-fn in_front(slots: &[Pending; 4]) -> [Pending; 4]
-    requires { length slots.now ≡ 4 }
+fn in_front(slots: &[Pending; SLOTS]) -> [Pending; SLOTS]
+    requires { length slots.now ≡ SLOTS }
     ensures { result ≡ packed (pending slots.now) }
 {
     let mut next = free_slots();
@@ -251,8 +255,8 @@ fn in_front(slots: &[Pending; 4]) -> [Pending; 4]
 }
 
 // Each slot moved down by one.
-fn moved_down(slots: &[Pending; 4]) -> [Pending; 4]
-    requires { length slots.now ≡ 4 }
+fn moved_down(slots: &[Pending; SLOTS]) -> [Pending; SLOTS]
+    requires { length slots.now ≡ SLOTS }
     ensures { result ≡ drop 1 slots.now ++ no_entry ∷ [] }
 {
     [slots[1], slots[2], slots[3], free_slot()]

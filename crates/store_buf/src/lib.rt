@@ -12,9 +12,9 @@ mod buffer;
 mod cover;
 mod pending;
 
-pub use buffer::StoreBuf;
+pub use buffer::{SLOTS, StoreBuf};
 pub use cover::Cover;
-pub use pending::Pending;
+pub use pending::{PENDING_FIELDS, Pending, PendingField, SLOT_BITS};
 
 #[cfg(test)]
 mod tests;

@@ -4,11 +4,13 @@ ghost use Rattle.std.specs.Prelude.{◌≡◌, ◌<◌, ℕ};
 ghost use Rattle.store_buf.specs.Entry.{no_entry};
 ghost use Rattle.store_buf.specs.Covers.{held};
 
-use bit_field::{Struck, bit_at, flip_u8, flip_u32, has_lane, lane_byte};
+use bit_field::{Field, Struck, bit_at, field_at, flip_at_u8, flip_at_u32, has_lane, lane_byte};
 use std::marker::Model;
 
-/// A store to one word that waits for the cache; with mask 0 a free slot. 66 bits can be struck: mask 0 to 3, word address 4
-/// to 33, value 34 to 65.
+/// The bits of a slot.
+pub const SLOT_BITS: u32 = 66;
+
+/// A store to one word that waits for the cache; with mask 0 a free slot.
 #[derive(Clone, Copy, PartialEq, Eq, Debug)]
 pub struct Pending {
     /// Bit `l` says that byte lane `l` is written; below 16.
@@ -32,35 +34,64 @@ impl Model for Pending {
     ghost inverse = { λ x. record { mask = x.mask; addr = x.addr; value = x.value } };
 }
 
+/// A field of a slot of the store buffer.
+#[derive(Clone, Copy, PartialEq, Eq, Debug)]
+pub enum PendingField {
+    Mask,
+    Addr,
+    Value,
+}
+
+/// The fields of a slot of the store buffer in bit order.
+pub const PENDING_FIELDS: [PendingField; 3] = [
+    PendingField::Mask,
+    PendingField::Addr,
+    PendingField::Value,
+];
+
+impl Field for PendingField {
+    ghost use Rattle.store_buf.specs.EntryBits as bits;
+
+    ghost width_of = { bits.width };
+
+    fn width(self) -> u32 {
+        match self {
+            PendingField::Mask => 4,
+            PendingField::Addr => 30,
+            PendingField::Value => 32,
+        }
+    }
+}
+
 impl Struck for Pending {
-    ghost use Rattle.store_buf.specs.Bits as spec;
+    ghost use Rattle.bit_field.specs.Layouts.{bit_count as bits_of_layout};
+    ghost use Rattle.store_buf.specs.EntryBits as bits;
 
-    ghost IsFit = { spec.IsFitEntry };
+    ghost IsFit = { bits.IsFit };
 
-    ghost bit_count = { λ _. 66 };
+    ghost bit_count = { λ _. bits_of_layout bits.layout };
 
-    ghost bit_of = { spec.bit_of_entry };
+    ghost bit_of = { bits.bit_of };
 
-    ghost flipped = { spec.flipped_entry };
+    ghost flipped = { bits.flipped };
 
     fn bits(&self) -> u32 {
-        66
+        SLOT_BITS
     }
 
     fn bit(&self, k: u32) -> bool {
-        if k < 4 {
-            bit_at(u32::from(self.mask), k)
-        } else if k < 34 {
-            bit_at(self.addr, k - 4)
-        } else {
-            bit_at(self.value, k - 34)
-        }
+        let (field, place) = field_at(&PENDING_FIELDS, k);
+        bit_at(self.value(field), place)
     }
 
     fn flip(&mut self, k: u32) {
-        flip_u8(&mut self.mask, 0, 4, k);
-        flip_u32(&mut self.addr, 4, 30, k);
-        flip_u32(&mut self.value, 34, 32, k);
+        let (field, place) = field_at(&PENDING_FIELDS, k);
+        let width = field.width();
+        match field {
+            PendingField::Mask => flip_at_u8(&mut self.mask, width, place),
+            PendingField::Addr => flip_at_u32(&mut self.addr, width, place),
+            PendingField::Value => flip_at_u32(&mut self.value, width, place),
+        }
     }
 
     fn fits(&self) {
@@ -71,6 +102,28 @@ impl Struck for Pending {
 }
 
 impl Pending {
+    ghost use Rattle.std.specs.Prelude.{Some};
+    ghost use Rattle.store_buf.specs.EntryBits as bits;
+
+    /// The field that holds a bit, and which of the field's own bits that is, both counted from 0.
+    pub fn field_at(bit: u32) -> (PendingField, u32)
+        requires { bit < SLOT_BITS }
+        ensures { bits.field_of bit ≡ Some result }
+    {
+        field_at(&PENDING_FIELDS, bit)
+    }
+
+    // The number that a field holds.
+    fn value(&self, field: PendingField) -> u32
+        ensures { result ≡ bits.value self.now field }
+    {
+        match field {
+            PendingField::Mask => u32::from(self.mask),
+            PendingField::Addr => self.addr,
+            PendingField::Value => self.value,
+        }
+    }
+
     /// The byte that this store holds for a lane of the word at a word address, if it writes that lane.
     #[tactic(auto, unfolding(crate::specs::Covers::held))]
     pub(crate) fn held(&self, addr: u32, lane: u32) -> Option<u8>

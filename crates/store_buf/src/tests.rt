@@ -31,6 +31,23 @@ fn each_bit_is_in_its_field(rt: HostRuntime) {
     }
 }
 
+#[test]
+fn a_slot_is_a_row_of_fields(rt: HostRuntime) {
+    let rows = [
+        (PendingField::Mask, 0, 3),
+        (PendingField::Addr, 4, 33),
+        (PendingField::Value, 34, 65),
+    ];
+    for (field, first, last) in rows {
+        assert!(rt; first <= last && last < SLOT_BITS);
+        assert!(rt; Pending::field_at(first) == (field, 0), "bit {first}");
+        assert!(rt;
+            Pending::field_at(last) == (field, last - first),
+            "bit {last}"
+        );
+    }
+}
+
 fn store(mask: u8, addr: u32, value: u32) -> Pending
     requires mask { mask < 16 }
     requires addr { addr < 1024 }

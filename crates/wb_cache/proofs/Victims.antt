@@ -1,7 +1,7 @@
 -- A victim and a way that was found are ways of the shape.
 use Rattle.std.proofs.Common.{◌≡◌, ◌⊎◌, inl, inr, ℕ, ◌+◌, ◌<◌, Bool, true, false, not, cond, List, arith, refl}
 use Rattle.std.specs.Prelude.{Option, Some, None, ◌==◌}
-use Rattle.bit_field.specs.Fields.{number_of}
+use Rattle.bit_field.specs.Layouts.{number_of}
 use Rattle.bit_field.specs.Shapes.{IsShape}
 use Rattle.bit_field.specs.declared.shapes.Shape.{Shape}
 use Rattle.wb_cache.specs.Contents.{Slot}

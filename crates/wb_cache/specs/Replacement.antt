@@ -3,7 +3,7 @@
 -- ways 2 and 3. A node that is true points to the greater ways.
 use Rattle.std.specs.Prelude.{ℕ, ◌+◌, ◌-◌, ◌*◌, ◌==◌, Bool, true, false, not, cond, nat_lt, List, Option, Some, None, slice_index_or, slice_set}
 use Rattle.bit_field.specs.declared.shapes.Shape.{Shape}
-use Rattle.bit_field.specs.Fields.{number_of}
+use Rattle.bit_field.specs.Layouts.{number_of}
 use Rattle.wb_cache.specs.Contents.{Slot}
 use Rattle.wb_cache.specs.Lookup.{first_below}
 

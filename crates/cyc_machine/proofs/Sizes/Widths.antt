@@ -7,6 +7,7 @@ use Rattle.elf_load.specs.Image.{LoadedImage, executable, word_in_ram}
 use Rattle.rv_table.specs.Actions.{action}
 use Rattle.rv_table.specs.Effects.{written_register}
 use Rattle.rv_table.specs.Words.{decode}
+use Rattle.rv_table.specs.declared.op.TheConstants.{FETCH_FAULT_CODE}
 use Rattle.rv_table.specs.declared.action.Action.{Action}
 use Rattle.rv_table.proofs.WordTable.{decode-rd}
 use Rattle.pipe_latch.specs.Execution.{executed}
@@ -22,7 +23,8 @@ use Rattle.cyc_machine.specs.declared.fate.Fate.TheVariants.{Absent, Dropped, St
 use Rattle.cyc_machine.specs.declared.memory_stage.Served.{Served}
 use Rattle.cyc_machine.specs.declared.port.Move.{Move}
 use Rattle.cyc_machine.specs.Memory.{appended, kept_stores, move_of, port_after, result_after, stores_after}
-use Rattle.cyc_machine.specs.Pipeline.{counted, decoded, decoded_after, delay_of, executed_after, op_of_entry, taken, written_registers}
+use Rattle.cyc_machine.specs.Pipeline.{counted, decoded, decoded_after, executed_after, op_of_entry, taken, written_registers}
+use Rattle.rv_table.proofs.RowLookups.{delay_of-below}
 use Rattle.cyc_machine.specs.PortState.{PortState}
 use Rattle.cyc_machine.proofs.Buffers.{length-kept}
 
@@ -32,16 +34,13 @@ decoded-rd : (e : Fetched) (w : ResultLatch) (registers : List ℕ) → (decoded
 unfolding decoded
 decoded-rd e w registers = go e.fault
   where
-    go : (b : Bool) → (if b then record (decode e.word) { code = 1 } else decode e.word).rd < 32
+    go : (b : Bool) → (if b then record (decode e.word) { code = FETCH_FAULT_CODE } else decode e.word).rd < 32
     go true = decode-rd e.word
     go false = decode-rd e.word
 
-delay-below : (code : ℕ) → delay_of code < 32
-delay-below code = grind (arith, nat_tests)
-
 decoded-count : (e : Fetched) (w : ResultLatch) (registers : List ℕ) → (decoded e w registers).count < 32
 unfolding decoded
-decoded-count e w registers = delay-below (op_of_entry e).code
+decoded-count e w registers = delay_of-below (op_of_entry e).code
 
 taken-rd : (o : Option Fetched) (w : ResultLatch) (registers : List ℕ) → (taken o w registers).rd < 32
 taken-rd (Some e) w registers = decoded-rd e w registers

@@ -13,7 +13,8 @@ use Rattle.pipe_latch.specs.Latches.{DecodedLatch, ResultLatch, no_decoded, no_r
 use Rattle.inst_buf.specs.Entry.{Entry}
 use Rattle.cyc_machine.specs.declared.fate.Fate.{Fate}
 use Rattle.cyc_machine.specs.declared.fate.Fate.TheVariants.{Absent, Dropped, Stays, Goes}
-use Rattle.cyc_machine.specs.Pipeline.{counted, delay_of, entries_after, fetched, filled, issued_after, npc_after, op_of_entry, stalled}
+use Rattle.cyc_machine.specs.Pipeline.{counted, entries_after, fetched, filled, issued_after, npc_after, op_of_entry, stalled}
+use Rattle.rv_table.specs.Operations.{delay_of}
 use Rattle.flush_view.specs.Flush.{completed_path, item_of_entry, path_of}
 use Rattle.cyc_machine.specs.InFlight.{Item, completed_item, item_of_latch, operand_held}
 use Rattle.flush_view.proofs.Flush.Operands.{held-taken}

@@ -15,7 +15,7 @@ use Rattle.elf_load.specs.Image.{LoadedImage}
 use Rattle.cyc_machine.specs.declared.fate.Fate.{Fate}
 use Rattle.cyc_machine.specs.declared.fate.Fate.TheVariants.{Absent}
 use Rattle.cyc_machine.specs.declared.memory_stage.Served.{Served}
-use Rattle.cyc_machine.specs.Cycle.{action_in_m, cycle, cycled, event_by, event_in, fate, issued_from, move, next_fetch, served_m}
+use Rattle.cyc_machine.specs.Cycle.{action_in_m, cycle, cycled, done_in, event_by, event_in, fate, issued_from, move, next_fetch, served_m}
 use Rattle.cyc_machine.specs.Memory.{cache_after, load_client, memory_after, move_of, port_after, result_after, served, store_client, stores_after, word_read}
 use Rattle.cyc_machine.specs.Pipeline.{decoded_after, entries_after, executed_after, fate_of, issued_after, lesson, npc_after, trained_by, written_registers}
 use Rattle.cyc_machine.specs.Run.{state_after}
@@ -114,6 +114,9 @@ module _ (s u : State) (same : DiffersInIgnored s u) where
         event = same-event;
         end = ap (λ (x : Action). end_of x) same-action;
       }
+
+  pub same-done : done_in s ≡ done_in u
+  same-done = let a = same-action in let v = same-served in cc
 
   -- ---- the next state
 
@@ -228,6 +231,7 @@ pub lockstep-law : (s : State) → IsSteady s → LockstepLaw s (cycle s)
 lockstep-law s is =
     record {
       report = λ u same. same-report s u same;
+      done = λ u same. same-done s u same;
       state = λ u other same. same-next s u same is other;
       decoded = λ u same. same-decoded s u same;
     }
@@ -254,5 +258,6 @@ module _ (s u : State) (is : IsSteady s) (other : IsSteady u) (same : DiffersInI
   goes-in-lockstep = record {
     state = lockstep-after;
     report = λ n. same-report (state_after n s) (state_after n u) (lockstep-after n);
+    done = λ n. same-done (state_after n s) (state_after n u) (lockstep-after n);
     decoded = decoded-after;
   }

@@ -14,7 +14,7 @@ use Rattle.pipe_latch.proofs.Latches.{action_of-no_executed}
 use Rattle.inst_buf.specs.Buffer.{entries, packed}
 use Rattle.cyc_machine.specs.Cycle.{cycle, cycled, end_in, fate, served_m, done_in}
 use Rattle.cyc_machine.specs.Pipeline.{fetched, register}
-use Rattle.cyc_machine.specs.Run.{IsRunning, clocks_after, clocks_below, issues_after, issues_below, log_after, state_after, state_at}
+use Rattle.cyc_machine.specs.Run.{IsRunning, clocks_after, clocks_below, issues_after, log_after, state_after, state_at}
 use Rattle.cyc_machine.specs.State.{State, reset}
 use Rattle.flush_view.specs.Coherence.{IsCoherent}
 use Rattle.flush_view.specs.Flush.{fed}

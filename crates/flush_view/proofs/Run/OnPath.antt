@@ -5,22 +5,24 @@ use Rattle.std.proofs.lemmas.Bool.Decides.{nat_tests}
 use Rattle.std.proofs.lemmas.List.Elements.{All-head, All-tail}
 use Rattle.avf_base.specs.declared.end.End.{End}
 use Rattle.elf_load.specs.Image.{LoadedImage}
-use Rattle.rv_isa.specs.Instruction.{State as Arch, Log, instruction, op_at}
+use Rattle.rv_isa.specs.Instruction.{State as Arch, Log, instruction, op_at, reg}
 use Rattle.inst_buf.specs.Buffer.{entries}
 use Rattle.inst_buf.specs.Entry.{Entry}
-use Rattle.pipe_latch.specs.Latches.{op_of_latch}
+use Rattle.rv_table.specs.declared.action.Action.{Action}
+use Rattle.pipe_latch.specs.Latches.{DecodedLatch, ResultLatch, op_of_latch}
 use Rattle.cyc_machine.specs.Cycle.{action_in_m}
-use Rattle.cyc_machine.specs.Pipeline.{fetched}
+use Rattle.cyc_machine.specs.Pipeline.{fetched, register}
 use Rattle.cyc_machine.specs.State.{State}
-use Rattle.flush_view.specs.Flush.{completed_path, flush, item_of_entry, latched, path}
-use Rattle.cyc_machine.specs.InFlight.{Item, completed_item, is_reached, item_of_latch}
+use Rattle.flush_view.specs.Flush.{before_latches, completed_path, flush, item_of_entry, latched, path}
+use Rattle.cyc_machine.specs.InFlight.{Item, completed_item, is_reached, item_of_latch, latches_completed, operand_held}
 use Rattle.flush_view.specs.Positions.{on_path}
 use Rattle.flush_view.specs.RunFacts.{HoldsNext}
 use Rattle.flush_view.specs.Views.{view}
 use Rattle.flush_view.proofs.Run.Followed.{Steps}
 use Rattle.flush_view.proofs.Flush.Path.{completed_op, fetched-next}
 use Rattle.flush_view.proofs.Flush.Pipes.{completed_with}
-use Rattle.flush_view.proofs.Run.Sound.{AreFetched}
+use Rattle.flush_view.proofs.Run.Sound.{AreFetched, Sound, held-operand}
+use Rattle.flush_view.proofs.Flush.MachinePipe.{piped}
 
 -- what it tells that an item is reached
 pub reached-stop : (o : Option End) (b : Bool) → is_none o && b ≡ true → o ≡ None
@@ -40,13 +42,23 @@ pub entry-next : (image : LoadedImage) (e : Entry) (at : Arch) → e ≡ fetched
 entry-next image e at same h =
     ap (λ (x : Entry). completed_item image (item_of_entry x) at) same ∙ fetched-next image e.pc at h
 
--- and so is an ID/EX that holds the next instruction
-pub held-next : (s : State) (at : Arch) → HoldsNext s at → s.d.pc ≡ at.pc
-    → completed_item s.image (item_of_latch s.image (action_in_m s) s.w (view s) s.d) at ≡ instruction s.image at
+-- and so is an ID/EX that holds the next instruction's decoding and operands, over whatever memory
+pub held-next : (image : LoadedImage) (m : Action) (w : ResultLatch) (memory : ℕ → ℕ) (d : DecodedLatch) (at : Arch) → op_of_latch d ≡ op_at image at.pc
+    → operand_held image m w memory d.rs1 d.a ≡ reg at.registers d.rs1 → operand_held image m w memory d.rs2 d.b ≡ reg at.registers d.rs2
+    → d.pc ≡ at.pc → completed_item image (item_of_latch image m w memory d) at ≡ instruction image at
 unfolding instruction
-held-next s at holds e =
-    completed_with s.image (op_of_latch s.d) s.d.pc _ _ _ _ at holds.a holds.b
-    ∙ completed_op s.image (op_of_latch s.d) (op_at s.image at.pc) s.d.pc at.pc at holds.op e
+held-next image m w memory d at op a b e =
+    completed_with image (op_of_latch d) d.pc _ _ _ _ at a b ∙ completed_op image (op_of_latch d) (op_at image at.pc) d.pc at.pc at op e
+
+-- so a sound ID/EX at the address that W and M completed over any memory lead to is the next instruction
+pub latch-next : (s : State) (memory : ℕ → ℕ) (clocks : List ℕ) (log : Log) → Sound (piped s) → s.d.valid ≡ true → s.d.pc ≡ s.npc
+    → completed_item s.image (item_of_latch s.image (action_in_m s) s.w memory s.d)
+    (latches_completed s.image (action_in_m s) s.w (before_latches s memory clocks log))
+    ≡ instruction s.image (latches_completed s.image (action_in_m s) s.w (before_latches s memory clocks log))
+latch-next s memory clocks log sound v e =
+    held-next s.image (action_in_m s) s.w memory s.d _ (sound.latch.op v ∙ ap (op_at s.image) e)
+    (held-operand s.image (action_in_m s) s.w memory (register s.registers) s.d.rs1 s.d.a (sound.latch.a v))
+    (held-operand s.image (action_in_m s) s.w memory (register s.registers) s.d.rs2 s.d.b (sound.latch.b v)) e
 
 module _ (image : LoadedImage) (trace : ℕ → Arch) (steps : Steps image trace) where
   -- one item, and the rest behind it
@@ -90,6 +102,7 @@ flush-on_path s log later trace x steps are holds position =
         ≡ trace (x + on_path trace x (if v then d ∷ rest else rest))
     go true v =
         more s.image trace steps x d rest
-        (λ r. let e = reached-pc d (trace x) r in held-next s (trace x) (holds v e) e)
+        (λ r. let e = reached-pc d (trace x) r in let h = holds v e in
+        held-next s.image (action_in_m s) s.w (view s) s.d (trace x) h.op h.a h.b e)
         (entries-on_path s.image trace steps (entries s.buffer) (x + 1) are)
     go false v = entries-on_path s.image trace steps (entries s.buffer) x are

@@ -1,9 +1,9 @@
 use Rattle.avf_tool.proofs.ByStatus.{by_status}
-use Rattle.avf_tool.proofs.Programs.{programs_end}
+use Rattle.avf_tool.proofs.Programs.{program_law}
 use Rattle.avf_tool.proofs.top.run_tool.Goals as goal
 
 pub returns-clause-by_status : goal.returns-clause-by_status
 returns-clause-by_status g c = by_status _ _ _ _ _ _ c.end.ensures.ends
 
 pub returns-clause-programs : goal.returns-clause-programs
-returns-clause-programs g c = programs_end
+returns-clause-programs g c = program_law

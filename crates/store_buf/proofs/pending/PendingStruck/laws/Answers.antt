@@ -1,5 +1,5 @@
-use Rattle.store_buf.proofs.FlipLaws.{entry_laws}
+use Rattle.store_buf.proofs.EntryLaws.{laws}
 use Rattle.store_buf.proofs.pending.PendingStruck.laws.Goals as goal
 
 pub returns : goal.returns
-returns c = entry_laws
+returns c = laws

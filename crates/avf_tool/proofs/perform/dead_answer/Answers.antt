@@ -1,0 +1,7 @@
+use Rattle.avf_tool.proofs.Deadness.{dead_told}
+use Rattle.avf_tool.proofs.Traces.{traced}
+use Rattle.avf_tool.proofs.perform.dead_answer.Goals as goal
+
+pub returns : goal.returns
+returns g c =
+    dead_told c.args.run.now c.in_ok-trace.trace c.dead_of.result (traced c.args.run.now c.in_ok-trace.trace c.requires c.in_ok-trace.ensures) c.dead_of.ensures
