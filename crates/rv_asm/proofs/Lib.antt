@@ -1,2 +1,6 @@
+pub mod KeywordTable
+pub mod Digits
+pub mod Registers
 pub mod Reading
 pub mod Operands
+pub mod Sound

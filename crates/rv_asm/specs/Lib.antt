@@ -1,3 +1,9 @@
 pub mod Bytes
 pub mod Chains
+pub mod Keywords
+pub mod Names
+pub mod Numbers
+pub mod Shown
+pub mod Sound
+pub mod Statements
 pub mod Tokens

@@ -6,4 +6,8 @@
 #![tactic(auto)]
 
 mod bytes;
+mod keyword;
+mod names;
+mod numbers;
+mod statement;
 mod tokens;
