@@ -1,15 +1,18 @@
 -- The instructions that are read have a word, form by form.
-use Rattle.std.proofs.Common.{◌≡◌, ℕ, ◌<◌, ◌||◌, ◌&&◌, Bool, true, false, eqb, refl, ap, sym, ◌∙◌, arith}
+use Rattle.std.proofs.Common.{◌≡◌, ℕ, ◌<◌, ◌||◌, ◌&&◌, Bool, true, false, eqb, refl, ap, sym, ◌∙◌, arith, inl, inr, lit<}
 use Rattle.std.specs.Prelude.{IsTrue}
-use Rattle.std.proofs.lemmas.Bool.{and_from, false≢true, or_right}
+use Rattle.std.proofs.lemmas.Bool.{and_from, eqb-true, false≢true, or_cases, or_right}
 use Rattle.std.proofs.lemmas.Bool.Decides.{nat_tests}
 use Rattle.rv_table.specs.Operations.{form_of, has_row}
+use Rattle.rv_table.specs.Rows.{row_of}
 use Rattle.rv_table.specs.WellFormed.{fits, well_formed}
+use Rattle.rv_table.specs.declared.codes.TheConstants.{ADDI, BEQ, BNE, JAL, JALR}
 use Rattle.rv_table.specs.declared.form.Form.{Form}
-use Rattle.rv_table.specs.declared.form.Form.TheVariants.{U, J, I, B, S, Shift, R}
+use Rattle.rv_table.specs.declared.form.Form.TheVariants.{U, J, I, B, S, Shift, R, Call as SystemCall, NoFields}
 use Rattle.rv_table.specs.declared.op.Op.{Op}
 use Rattle.rv_asm.specs.Statements.{plain}
-use Rattle.rv_asm.specs.Sound.{IsReadyFor, takes_number, takes_offset, takes_two}
+use Rattle.rv_asm.specs.declared.statement.TheConstants.{RA}
+use Rattle.rv_asm.specs.Sound.{IsReadyFor, takes_number, branches, takes_offset, takes_two}
 
 -- an operation whose fields fit the form of its row
 pub fit : (form : Form) (op : Op) → has_row op.code ≡ true → form_of op.code ≡ form → fits form op ≡ true → IsTrue (well_formed op)
@@ -66,3 +69,50 @@ fits_r code rd rs1 rs2 p q r = grind (arith, nat_tests)
 
 pub sound_r : (code rd rs1 rs2 : ℕ) → has_row code ≡ true → form_of code ≡ R → rd < 32 → rs1 < 32 → rs2 < 32 → IsTrue (well_formed (plain code rd rs1 rs2))
 sound_r code rd rs1 rs2 row is p q r = fit R (plain code rd rs1 rs2) row is (fits_r code rd rs1 rs2 p q r)
+
+-- ECALL, and the instructions with no fields
+
+fits_call : (code : ℕ) → fits SystemCall (plain code 0 17 10) ≡ true
+unfolding fits
+fits_call code = refl
+
+fits_bare : (code : ℕ) → fits NoFields (plain code 0 0 0) ≡ true
+unfolding fits
+fits_bare code = refl
+
+pub sound_call : (code : ℕ) → has_row code ≡ true → form_of code ≡ SystemCall → IsTrue (well_formed (plain code 0 17 10))
+sound_call code row is = fit SystemCall (plain code 0 17 10) row is (fits_call code)
+
+pub sound_no_fields : (code : ℕ) → has_row code ≡ true → form_of code ≡ NoFields → IsTrue (well_formed (plain code 0 0 0))
+sound_no_fields code row is = fit NoFields (plain code 0 0 0) row is (fits_bare code)
+
+pub ruleset bare_forms = (sound_call, sound_no_fields)
+
+-- The instructions of the further forms
+
+pub sound_addi : (rd rs : ℕ) → rd < 32 → rs < 32 → IsTrue (well_formed (plain ADDI rd rs 0))
+unfolding has_row form_of row_of
+sound_addi rd rs p q = fit I (plain ADDI rd rs 0) refl refl (fits_i ADDI rd rs p q)
+
+pub sound_jalr : (rs : ℕ) → rs < 32 → IsTrue (well_formed (plain JALR 0 rs 0))
+unfolding has_row form_of row_of
+sound_jalr rs q = fit I (plain JALR 0 rs 0) refl refl (fits_i JALR 0 rs (lit< tt) q)
+
+pub sound_jal : (rd : ℕ) → rd < 32 → IsReadyFor takes_offset (plain JAL rd 0 0)
+unfolding has_row form_of row_of
+sound_jal rd h = sound_j JAL rd refl refl h
+
+pub sound_branch : (code rs : ℕ) → IsTrue (branches code) → rs < 32 → IsReadyFor takes_offset (plain code 0 rs 0)
+unfolding has_row form_of row_of
+sound_branch code rs b h = elim (or_cases _ _ b) [
+  | inl e ↦ let same : code ≡ BEQ = eqb-true _ _ e in rw same (sound_b BEQ rs 0 refl refl h (lit< tt))
+  | inr e ↦ let same : code ≡ BNE = eqb-true _ _ e in rw same (sound_b BNE rs 0 refl refl h (lit< tt))
+]
+
+pub sound_nop : IsTrue (well_formed (plain ADDI 0 0 0))
+sound_nop = sound_addi 0 0 (lit< tt) (lit< tt)
+
+pub sound_return : IsTrue (well_formed (plain JALR 0 RA 0))
+sound_return = sound_jalr RA (lit< tt)
+
+pub ruleset fixed_ops = (sound_nop, sound_return)

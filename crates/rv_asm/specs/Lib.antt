@@ -1,6 +1,7 @@
 pub mod Bytes
 pub mod Chains
 pub mod Keywords
+pub mod Lines
 pub mod Names
 pub mod Numbers
 pub mod Shown

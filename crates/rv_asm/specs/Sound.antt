@@ -1,5 +1,6 @@
 -- What holds of the instructions of each statement that is read: with the immediate to come they have a word.
-use Rattle.std.specs.Prelude.{◌≡◌, ◌<◌, ℕ, Bool, true, false, IsTrue}
+use Rattle.std.specs.Prelude.{◌≡◌, ◌<◌, ℕ, Bool, true, false, IsTrue, ◌==◌, ◌||◌}
+use Rattle.rv_table.specs.declared.codes.TheConstants.{BEQ, BNE}
 use Rattle.rv_table.specs.Operations.{form_of, has_row}
 use Rattle.rv_table.specs.WellFormed.{well_formed}
 use Rattle.rv_table.specs.declared.form.Form.{Form}
@@ -32,6 +33,10 @@ abbrev pub takes_two : Form → Bool
 takes_two I = true
 takes_two Shift = true
 takes_two _ = false
+
+-- the codes of the branches that compare with register 0
+abbrev pub branches : ℕ → Bool
+branches code = code == BEQ || code == BNE
 
 -- it has a word with immediate 0, and its form takes what comes
 pub record IsReadyFor (takes : Form → Bool) (op : Op) : Type 0 where

@@ -99,6 +99,10 @@ registers code ts = do
   rs2 ← register o.2
   Some (Ready (plain code rd rs1 rs2))
 
+-- an address for JALR and the loads, a number for the others
+abbrev pub with_number : ℕ → List Token → Option Statement
+with_number code ts = if names_address (operation_of code) then load code ts else immediate code ts
+
 -- no operands
 unfoldable pub bare : Statement → List Token → Option Statement
 bare statement ts = do
@@ -108,7 +112,7 @@ bare statement ts = do
 unfoldable pub by_form : Form → ℕ → List Token → Option Statement
 by_form U code ts = upper code ts
 by_form J code ts = jump code ts
-by_form I code ts = if names_address (operation_of code) then load code ts else immediate code ts
+by_form I code ts = with_number code ts
 by_form B code ts = branch code ts
 by_form S code ts = store code ts
 by_form Shift code ts = immediate code ts

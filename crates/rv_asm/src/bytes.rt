@@ -2,6 +2,11 @@
 ghost use Rattle.std.specs.Prelude.{◌≡◌};
 ghost use Rattle.rv_asm.specs.Bytes as spec;
 
+/// What ends a line, and what is passed over before it.
+pub const LINE_FEED: u8 = 10;
+
+pub const CARRIAGE_RETURN: u8 = 13;
+
 /// What begins a comment.
 pub const COMMENT: u8 = b'#';
 

@@ -1,7 +1,8 @@
 //! What the first word of a statement can be.
-ghost use Rattle.std.specs.Prelude.{◌≡◌, bytes_eq, find, map};
+ghost use Rattle.std.specs.Prelude.{◌≡◌, IfSome, IsTrue, bytes_eq, find, map};
 ghost use Rattle.std.specs.Option.{option_copied};
 ghost use Rattle.rv_asm.specs.Keywords as spec;
+ghost use Rattle.rv_asm.specs.Sound.{is_known};
 
 use rv_table::{Form, row_named};
 
@@ -67,7 +68,8 @@ fn first_named<'a>(keywords: &'a [NamedKeyword], word: &[u8]) -> Option<&'a Name
 
 /// The further form or the directive that a word names.
 fn further_named(word: &[u8]) -> Option<Keyword>
-    ensures { result ≡ spec.further_named word.now }
+    ensures keyword { result ≡ spec.further_named word.now }
+    ensures known { IfSome result (λ k. IsTrue (is_known k)) }
 {
     match first_named(further(), word) {
         Some(named) => Some(named.keyword),
@@ -76,9 +78,10 @@ fn further_named(word: &[u8]) -> Option<Keyword>
 }
 
 /// The instruction of the word table, but for the counter reads, that a word names.
-#[tactic(auto, unfolding(crate::specs::Keywords::instruction_named))]
+#[tactic(auto, unfolding(crate::specs::Keywords::instruction_named), using(crate::proofs::KeywordTable::row_known))]
 fn instruction_named(word: &[u8]) -> Option<Keyword>
-    ensures { result ≡ spec.instruction_named word.now }
+    ensures keyword { result ≡ spec.instruction_named word.now }
+    ensures known { IfSome result (λ k. IsTrue (is_known k)) }
 {
     let row = row_named(word)?;
     if row.form == Form::Counter {
@@ -91,7 +94,8 @@ fn instruction_named(word: &[u8]) -> Option<Keyword>
 /// What a word names.
 #[tactic(auto, unfolding(crate::specs::Keywords::keyword_named))]
 pub fn keyword_named(word: &[u8]) -> Option<Keyword>
-    ensures { result ≡ spec.keyword_named word.now }
+    ensures keyword { result ≡ spec.keyword_named word.now }
+    ensures known { IfSome result (λ k. IsTrue (is_known k)) }
 {
     match further_named(word) {
         Some(keyword) => Some(keyword),

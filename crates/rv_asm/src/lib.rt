@@ -6,7 +6,9 @@
 #![tactic(auto)]
 
 mod bytes;
+mod fault;
 mod keyword;
+mod line;
 mod names;
 mod numbers;
 mod statement;

@@ -3,7 +3,9 @@ ghost use Rattle.std.specs.Prelude.{◌≡◌, ◌<◌, true, IfSome, IsTrue, op
 ghost use Rattle.rv_table.specs.Operations.{form_of, has_row};
 ghost use Rattle.rv_table.specs.declared.form.Form.TheVariants as form;
 ghost use Rattle.rv_asm.specs.Shown.{shown};
-ghost use Rattle.rv_asm.specs.Sound.{IsSound, is_known, takes_two};
+ghost use Rattle.rv_table.specs.WellFormed.{well_formed};
+ghost use Rattle.rv_asm.specs.Sound.{IsSound, branches, is_known, takes_two};
+ghost use Rattle.rv_asm.specs.Statements.{Ready};
 ghost use Rattle.rv_asm.specs.Statements as spec;
 ghost use Rattle.rv_asm.specs.Tokens.{tokens};
 
@@ -147,4 +149,187 @@ fn registers<'s>(code: u8, text: &'s [u8]) -> Option<Statement<'s>>
     let (rd, rs1, rs2) = three(text)?;
     let op = plain(code, register(rd)?, register(rs1)?, register(rs2)?);
     Some(Statement::Ready(op))
+}
+
+/// No operands.
+#[tactic(auto, unfolding(crate::specs::Statements::bare))]
+fn bare<'s>(statement: Statement<'s>, text: &'s [u8]) -> Option<Statement<'s>>
+    requires { IsSound (shown statement) }
+    ensures statement { option_map shown result ≡ spec.bare (shown statement.entry) (tokens text.now) }
+    ensures sound { IfSome result (λ s. IsSound (shown s)) }
+{
+    end(text)?;
+    Some(statement)
+}
+
+/// An instruction that has no operands.
+fn bare_op<'s>(op: Op, text: &'s [u8]) -> Option<Statement<'s>>
+    requires { IsTrue (well_formed op) }
+    ensures statement { option_map shown result ≡ spec.bare (Ready op) (tokens text.now) }
+    ensures sound { IfSome result (λ s. IsSound (shown s)) }
+{
+    bare(Statement::Ready(op), text)
+}
+
+/// An instruction with rd, rs1 and a number, or with an address.
+fn with_number<'s>(code: u8, text: &'s [u8]) -> Option<Statement<'s>>
+    requires row { has_row code ≡ true }
+    requires form { form_of code ≡ form.I }
+    ensures statement { option_map shown result ≡ spec.with_number code (tokens text.now) }
+    ensures sound { IfSome result (λ s. IsSound (shown s)) }
+{
+    if operation_of(code).names_address() {
+        load(code, text)
+    } else {
+        immediate(code, text)
+    }
+}
+
+/// An instruction of the word table.
+#[tactic(auto, unfolding(crate::specs::Statements::instruction, crate::specs::Statements::by_form), using(crate::proofs::Sound::bare_forms))]
+fn instruction<'s>(code: u8, text: &'s [u8]) -> Option<Statement<'s>>
+    requires { has_row code ≡ true }
+    ensures statement { option_map shown result ≡ spec.instruction code (tokens text.now) }
+    ensures sound { IfSome result (λ s. IsSound (shown s)) }
+{
+    match form_of(code) {
+        Form::U => upper(code, text),
+        Form::J => jump(code, text),
+        Form::I => with_number(code, text),
+        Form::B => branch(code, text),
+        Form::S => store(code, text),
+        Form::Shift => immediate(code, text),
+        Form::R => registers(code, text),
+        Form::Call => bare_op(plain(code, 0, 17, 10), text),
+        Form::NoFields => bare_op(plain(code, 0, 0, 0), text),
+        Form::Counter => None,
+    }
+}
+
+/// rd, rs
+#[tactic(auto, unfolding(crate::specs::Statements::move_register), using(crate::proofs::Sound::sound_addi))]
+fn move_register<'s>(text: &'s [u8]) -> Option<Statement<'s>>
+    ensures statement { option_map shown result ≡ spec.move_register (tokens text.now) }
+    ensures sound { IfSome result (λ s. IsSound (shown s)) }
+{
+    let (rd, rs) = two(text)?;
+    let op = plain(codes::ADDI, register(rd)?, register(rs)?, 0);
+    Some(Statement::Ready(op))
+}
+
+/// label, with the return address in rd
+#[tactic(auto, unfolding(crate::specs::Statements::jump_to), using(crate::proofs::Sound::sound_jal))]
+fn jump_to<'s>(rd: u8, text: &'s [u8]) -> Option<Statement<'s>>
+    requires { rd < 32 }
+    ensures statement { option_map shown result ≡ spec.jump_to rd (tokens text.now) }
+    ensures sound { IfSome result (λ s. IsSound (shown s)) }
+{
+    let target = label(one(text)?)?;
+    Some(Statement::WithLabel(plain(codes::JAL, rd, 0, 0), target))
+}
+
+/// rs
+#[tactic(auto, unfolding(crate::specs::Statements::jump_register), using(crate::proofs::Sound::sound_jalr))]
+fn jump_register<'s>(text: &'s [u8]) -> Option<Statement<'s>>
+    ensures statement { option_map shown result ≡ spec.jump_register (tokens text.now) }
+    ensures sound { IfSome result (λ s. IsSound (shown s)) }
+{
+    let rs = register(one(text)?)?;
+    Some(Statement::Ready(plain(codes::JALR, 0, rs, 0)))
+}
+
+/// rs, label: a comparison with register 0
+#[tactic(auto, unfolding(crate::specs::Statements::branch_zero), using(crate::proofs::Sound::sound_branch))]
+fn branch_zero<'s>(code: u8, text: &'s [u8]) -> Option<Statement<'s>>
+    requires { IsTrue (branches code) }
+    ensures statement { option_map shown result ≡ spec.branch_zero code (tokens text.now) }
+    ensures sound { IfSome result (λ s. IsSound (shown s)) }
+{
+    let (rs, target) = two(text)?;
+    let rs = register(rs)?;
+    Some(Statement::WithLabel(plain(code, 0, rs, 0), label(target)?))
+}
+
+/// rd, n
+#[tactic(auto, unfolding(crate::specs::Statements::load_immediate))]
+fn load_immediate<'s>(text: &'s [u8]) -> Option<Statement<'s>>
+    ensures statement { option_map shown result ≡ spec.load_immediate (tokens text.now) }
+    ensures sound { IfSome result (λ s. IsSound (shown s)) }
+{
+    let (rd, n) = two(text)?;
+    let rd = register(rd)?;
+    Some(Statement::NumberInto(rd, number(n)?))
+}
+
+/// rd, label
+#[tactic(auto, unfolding(crate::specs::Statements::load_address))]
+fn load_address<'s>(text: &'s [u8]) -> Option<Statement<'s>>
+    ensures statement { option_map shown result ≡ spec.load_address (tokens text.now) }
+    ensures sound { IfSome result (λ s. IsSound (shown s)) }
+{
+    let (rd, target) = two(text)?;
+    let rd = register(rd)?;
+    Some(Statement::AddressInto(rd, label(target)?))
+}
+
+/// n
+#[tactic(auto, unfolding(crate::specs::Statements::one_number))]
+fn one_number(text: &[u8]) -> Option<i64>
+    ensures { result ≡ spec.one_number (tokens text.now) }
+{
+    number(one(text)?)
+}
+
+/// n
+#[tactic(auto, unfolding(crate::specs::Statements::data_word))]
+fn data_word<'s>(text: &'s [u8]) -> Option<Statement<'s>>
+    ensures statement { option_map shown result ≡ spec.data_word (tokens text.now) }
+    ensures sound { IfSome result (λ s. IsSound (shown s)) }
+{
+    Some(Statement::DataWord(one_number(text)?))
+}
+
+/// n
+#[tactic(auto, unfolding(crate::specs::Statements::data_byte))]
+fn data_byte<'s>(text: &'s [u8]) -> Option<Statement<'s>>
+    ensures statement { option_map shown result ≡ spec.data_byte (tokens text.now) }
+    ensures sound { IfSome result (λ s. IsSound (shown s)) }
+{
+    Some(Statement::DataByte(one_number(text)?))
+}
+
+/// n
+#[tactic(auto, unfolding(crate::specs::Statements::data_space))]
+fn data_space<'s>(text: &'s [u8]) -> Option<Statement<'s>>
+    ensures statement { option_map shown result ≡ spec.data_space (tokens text.now) }
+    ensures sound { IfSome result (λ s. IsSound (shown s)) }
+{
+    Some(Statement::DataSpace(one_number(text)?))
+}
+
+/// What a keyword and the text behind it mean.
+#[tactic(auto, unfolding(crate::specs::Statements::statement_by), using(crate::proofs::Sound::fixed_ops))]
+pub fn statement_by<'s>(keyword: Keyword, text: &'s [u8]) -> Option<Statement<'s>>
+    requires { IsTrue (is_known keyword) }
+    ensures statement { option_map shown result ≡ spec.statement_by keyword (tokens text.now) }
+    ensures sound { IfSome result (λ s. IsSound (shown s)) }
+{
+    match keyword {
+        Keyword::Instruction(code) => instruction(code, text),
+        Keyword::Nop => bare_op(plain(codes::ADDI, 0, 0, 0), text),
+        Keyword::Move => move_register(text),
+        Keyword::Jump => jump_to(0, text),
+        Keyword::Call => jump_to(RA, text),
+        Keyword::JumpRegister => jump_register(text),
+        Keyword::Return => bare_op(plain(codes::JALR, 0, RA, 0), text),
+        Keyword::BranchIfZero => branch_zero(codes::BEQ, text),
+        Keyword::BranchIfNotZero => branch_zero(codes::BNE, text),
+        Keyword::LoadImmediate => load_immediate(text),
+        Keyword::LoadAddress => load_address(text),
+        Keyword::TextPart => bare(Statement::Part(false), text),
+        Keyword::DataPart => bare(Statement::Part(true), text),
+        Keyword::Word => data_word(text),
+        Keyword::Byte => data_byte(text),
+        Keyword::Space => data_space(text),
+    }
 }
