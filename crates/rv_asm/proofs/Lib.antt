@@ -4,3 +4,5 @@ pub mod Registers
 pub mod Reading
 pub mod Operands
 pub mod Sound
+pub mod LineForms
+pub mod LineCuts

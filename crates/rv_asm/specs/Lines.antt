@@ -1,5 +1,6 @@
 -- Lines: what a line of a source says, and the lines of a source.
 use Rattle.std.specs.Prelude.{ℕ, ◌-◌, ◌==◌, Bool, true, false, not, if◌then◌else◌, List, [], ◌∷◌, length, take, slice_index, Option, Some, None, Result, Ok, Err}
+use Rattle.std.specs.Option.{ok_or}
 use Rattle.std.specs.List.{list_all, slice_split, take_while}
 use Rattle.rv_asm.specs.Bytes.{is_allowed}
 use Rattle.rv_asm.specs.Keywords.{keyword_named}
@@ -16,11 +17,6 @@ abbrev pub ◌>>=◌ : {A B : Type 0} → Result A Fault → (A → Result B Fau
 Ok x >>= next = next x
 Err fault >>= next = Err fault
 
--- what there is, or else the fault
-abbrev pub or_fault : {A : Type 0} → Fault → Option A → Result A Fault
-or_fault fault (Some x) = Ok x
-or_fault fault None = Err fault
-
 -- Instructions stand in the text part, words, bytes and space in the data part.
 abbrev pub stands_in : Bool → Statement → Bool
 stands_in in_data Blank = true
@@ -36,8 +32,8 @@ placed in_data statement = if stands_in in_data statement then Ok statement else
 -- a statement of a first word and what stands behind it
 unfoldable pub spoken : Bool → List ℕ → List Token → Result Statement Fault
 spoken in_data word ts = do
-  keyword ← or_fault UnknownWord (keyword_named word)
-  statement ← or_fault BadForm (statement_by keyword ts)
+  keyword ← ok_or (keyword_named word) UnknownWord
+  statement ← ok_or (statement_by keyword ts) BadForm
   placed in_data statement
 
 -- a statement begins with a word, or there is none
@@ -57,7 +53,7 @@ without_label in_data ts = do
 
 unfoldable pub with_label : Bool → List ℕ → List Token → Result Line Fault
 with_label in_data word ts = do
-  name ← or_fault UnknownWord (label word)
+  name ← ok_or (label word) UnknownWord
   statement ← statement_of in_data ts
   Ok (record { name = Some name; statement = statement })
 

@@ -53,6 +53,11 @@ unfoldable pub end : List Token → Option (Unit {0})
 end [] = Some tt
 end _ = None
 
+-- the word before the colon that comes first, and what stands behind
+unfoldable pub before_colon : List Token → Option (List ℕ × List Token)
+before_colon (Word bytes ∷ Colon ∷ ts) = Some (bytes, ts)
+before_colon _ = None
+
 -- The operands of a statement, by how they are written: none, or one, two or three between commas, or one and `n(base)`.
 unfoldable pub one_of : List Token → Option (List ℕ)
 one_of (Word a ∷ []) = Some a
