@@ -6,3 +6,5 @@ pub mod Operands
 pub mod Sound
 pub mod LineForms
 pub mod LineCuts
+pub mod LayingOut
+pub mod Searching

@@ -1,9 +1,10 @@
 -- Statements as the program holds them.
-use Rattle.std.specs.Prelude.{ℕ, Result, Ok, Err, option_map}
+use Rattle.std.specs.Prelude.{ℕ, Option, Result, Ok, Err, option_map}
 use Rattle.rv_asm.specs.declared.statement.Statement.{Statement as CodeStatement}
 use Rattle.rv_asm.specs.declared.statement.Statement.TheVariants as code
 use Rattle.rv_asm.specs.declared.fault.Fault.{Fault}
 use Rattle.rv_asm.specs.declared.line.Line.{Line as CodeLine}
+use Rattle.rv_asm.specs.declared.search.LineFault.{LineFault}
 use Rattle.rv_asm.specs.Lines.{Line}
 use Rattle.rv_asm.specs.Statements.{Statement, Blank, Part, DataWord, DataByte, DataSpace, Ready, WithNumber, WithLabel, NumberInto, AddressInto}
 
@@ -29,3 +30,7 @@ shown_line line = record { name = option_map (λ name. name.now) line.name; stat
 abbrev pub shown_lines : Result CodeLine Fault → Result Line Fault
 shown_lines (Ok line) = Ok (shown_line line)
 shown_lines (Err fault) = Err fault
+
+-- a fault and its line, where there is one
+abbrev pub shown_fault : Option LineFault → Option (ℕ × Fault)
+shown_fault fault = option_map (λ f. (f.line, f.fault)) fault

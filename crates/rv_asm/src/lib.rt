@@ -6,10 +6,13 @@
 #![tactic(auto)]
 
 mod bytes;
+mod code;
 mod fault;
 mod keyword;
+mod layout;
 mod line;
 mod names;
 mod numbers;
+mod search;
 mod statement;
 mod tokens;

@@ -44,7 +44,7 @@ pub enum Statement<'s> {
 }
 
 /// An instruction without an immediate.
-fn plain(code: u8, rd: u8, rs1: u8, rs2: u8) -> Op
+pub fn plain(code: u8, rd: u8, rs1: u8, rs2: u8) -> Op
     ensures { result ≡ spec.plain code rd rs1 rs2 }
 {
     Op {
