@@ -8,3 +8,7 @@ pub mod LineForms
 pub mod LineCuts
 pub mod LayingOut
 pub mod Searching
+pub mod Immediates
+pub mod Emitting
+pub mod Sizes
+pub mod Putting

@@ -10,5 +10,6 @@ pub mod Numbers
 pub mod Program
 pub mod Shown
 pub mod Sound
+pub mod Sources
 pub mod Statements
 pub mod Tokens

@@ -1,7 +1,6 @@
 -- The program of a source: the instructions of each line, the bytes of the data part, the entry.
 use Rattle.std.specs.Prelude.{ℕ, ◌+◌, ◌-◌, ◌*◌, ◌/◌, ◌%◌, ◌^◌, nat_le, if◌then◌else◌, List, [], ◌∷◌, ◌++◌, codes, replicate, Option, Some, None, option_and_then, Result, Ok, Err, ℤ, unsigned_abs}
-use Rattle.std.specs.Int.{cast_unsigned, w64}
-use Rattle.byteorder.specs.Endian.{little_bytes}
+use Rattle.std.specs.Int.{cast_unsigned, to_le_bytes, w32, w64}
 use Rattle.elf_write.specs.declared.layout.TheConstants.{TEXT_BASE}
 use Rattle.rv_table.specs.Operations.{form_of}
 use Rattle.rv_table.specs.Words.{sign_extended}
@@ -43,18 +42,22 @@ lower_of rd n = with_immediate (plain ADDI rd rd 0) (sign_extended 12 (n % 2 ^ 1
 abbrev pub pair : ℕ → ℕ → List Op
 pair rd n = upper_of rd n ∷ lower_of rd n ∷ []
 
+-- one instruction is enough for a short number
+abbrev pub number_into : ℕ → ℤ → List Op
+number_into rd n = if is_short n then with_immediate (plain ADDI rd 0 0) (unsigned n) ∷ [] else pair rd (unsigned n)
+
 -- the instructions of a statement at a byte address, whose label is at `goal`
 unfoldable pub ops_of : ℕ → ℕ → Statement → List Op
 ops_of origin goal (Ready op) = op ∷ []
 ops_of origin goal (WithNumber op n) = with_immediate op (immediate_of (form_of op.code) n) ∷ []
 ops_of origin goal (WithLabel op target) = with_immediate op (offset origin goal) ∷ []
-ops_of origin goal (NumberInto rd n) = if is_short n then with_immediate (plain ADDI rd 0 0) (unsigned n) ∷ [] else pair rd (unsigned n)
-ops_of origin goal (AddressInto rd target) = pair rd goal
+ops_of origin goal (NumberInto rd n) = number_into rd n
+ops_of origin goal (AddressInto rd target) = pair rd (goal % 2 ^ 32)
 ops_of origin goal _ = []
 
 -- the bytes of a statement in the data part
 unfoldable pub bytes_of : Statement → List ℕ
-bytes_of (DataWord n) = little_bytes 4 (unsigned n)
+bytes_of (DataWord n) = to_le_bytes w32 (unsigned n)
 bytes_of (DataByte n) = unsigned n % 2 ^ 8 ∷ []
 bytes_of (DataSpace n) = replicate (unsigned_abs n) 0
 bytes_of _ = []

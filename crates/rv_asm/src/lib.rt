@@ -5,8 +5,10 @@
 //! source, `code` has the instructions of a statement, and `assembler` puts the file together.
 #![tactic(auto)]
 
+mod assembler;
 mod bytes;
 mod code;
+mod error;
 mod fault;
 mod keyword;
 mod layout;
@@ -16,3 +18,5 @@ mod numbers;
 mod search;
 mod statement;
 mod tokens;
+
+pub use error::AsmError;

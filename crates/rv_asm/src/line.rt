@@ -1,5 +1,5 @@
 //! Lines: what a line of a source says, and the lines of a source.
-ghost use Rattle.std.specs.Prelude.{◌≡◌, ◌<◌, ◌≤◌, ◌∷◌, ◌==◌, Bool, IfOk, None, not, length, option_map};
+ghost use Rattle.std.specs.Prelude.{◌≡◌, ◌<◌, ◌≤◌, ◌∷◌, ◌==◌, Bool, IfOk, None, true, not, length, option_map};
 ghost use Rattle.std.specs.List.{list_all, position_or_len, prefix_len, take_while};
 ghost use Rattle.rv_asm.specs.Bytes.{is_allowed};
 ghost use Rattle.rv_asm.specs.Lines as spec;
@@ -42,6 +42,7 @@ fn placed(in_data: bool, statement: Statement<'_>) -> Result<Statement<'_>, Faul
     requires { IsSound (shown statement) }
     ensures statement { shown_result result ≡ spec.placed in_data (shown statement.entry) }
     ensures sound { IfOk result (λ s. IsSound (shown s)) }
+    ensures stands { IfOk result (λ s. spec.stands_in in_data (shown s) ≡ true) }
 {
     if stands_in(in_data, &statement) {
         Ok(statement)
@@ -55,6 +56,7 @@ fn placed(in_data: bool, statement: Statement<'_>) -> Result<Statement<'_>, Faul
 fn spoken<'s>(in_data: bool, first: &[u8], text: &'s [u8]) -> Result<Statement<'s>, Fault>
     ensures statement { shown_result result ≡ spec.spoken in_data first.now (tokens text.now) }
     ensures sound { IfOk result (λ s. IsSound (shown s)) }
+    ensures stands { IfOk result (λ s. spec.stands_in in_data (shown s) ≡ true) }
 {
     let keyword = keyword_named(first).ok_or(Fault::UnknownWord)?;
     let statement = statement_by(keyword, text).ok_or(Fault::BadForm)?;
@@ -66,6 +68,7 @@ fn spoken<'s>(in_data: bool, first: &[u8], text: &'s [u8]) -> Result<Statement<'
 fn nothing<'s>(text: &[u8]) -> Result<Statement<'s>, Fault>
     ensures statement { first_word (tokens text.now) ≡ None → (in_data : Bool) → shown_result result ≡ spec.statement_of in_data (tokens text.now) }
     ensures sound { IfOk result (λ s. IsSound (shown s)) }
+    ensures stands { IfOk result (λ s. (in_data : Bool) → spec.stands_in in_data (shown s) ≡ true) }
 {
     match end(text) {
         Some(()) => Ok(Statement::Blank),
@@ -78,6 +81,7 @@ fn nothing<'s>(text: &[u8]) -> Result<Statement<'s>, Fault>
 fn statement_of<'s>(in_data: bool, text: &'s [u8]) -> Result<Statement<'s>, Fault>
     ensures statement { shown_result result ≡ spec.statement_of in_data (tokens text.now) }
     ensures sound { IfOk result (λ s. IsSound (shown s)) }
+    ensures stands { IfOk result (λ s. spec.stands_in in_data (shown s) ≡ true) }
 {
     match word(text) {
         Some((first, rest)) => spoken(in_data, first, rest),
@@ -98,6 +102,7 @@ fn before_colon(text: &[u8]) -> Option<(&[u8], &[u8])>
 fn without_label<'s>(in_data: bool, text: &'s [u8]) -> Result<Line<'s>, Fault>
     ensures line { shown_lines result ≡ spec.without_label in_data (tokens text.now) }
     ensures sound { IfOk result (λ l. IsSound (shown l.statement)) }
+    ensures stands { IfOk result (λ l. spec.stands_in in_data (shown l.statement) ≡ true) }
 {
     let statement = statement_of(in_data, text)?;
     Ok(Line {
@@ -110,6 +115,7 @@ fn without_label<'s>(in_data: bool, text: &'s [u8]) -> Result<Line<'s>, Fault>
 fn with_label<'s>(in_data: bool, name: &'s [u8], text: &'s [u8]) -> Result<Line<'s>, Fault>
     ensures line { shown_lines result ≡ spec.with_label in_data name.now (tokens text.now) }
     ensures sound { IfOk result (λ l. IsSound (shown l.statement)) }
+    ensures stands { IfOk result (λ l. spec.stands_in in_data (shown l.statement) ≡ true) }
 {
     let name = label(name).ok_or(Fault::UnknownWord)?;
     let statement = statement_of(in_data, text)?;
@@ -124,6 +130,7 @@ fn with_label<'s>(in_data: bool, name: &'s [u8], text: &'s [u8]) -> Result<Line<
 fn labelled<'s>(in_data: bool, text: &'s [u8]) -> Result<Line<'s>, Fault>
     ensures line { shown_lines result ≡ spec.labelled in_data (tokens text.now) }
     ensures sound { IfOk result (λ l. IsSound (shown l.statement)) }
+    ensures stands { IfOk result (λ l. spec.stands_in in_data (shown l.statement) ≡ true) }
 {
     match before_colon(text) {
         Some((name, rest)) => with_label(in_data, name, rest),
@@ -156,6 +163,7 @@ fn are_allowed(line: &[u8]) -> bool
 pub fn line_of<'s>(in_data: bool, line: &'s [u8]) -> Result<Line<'s>, Fault>
     ensures line { shown_lines result ≡ spec.line_of in_data line.now }
     ensures sound { IfOk result (λ l. IsSound (shown l.statement)) }
+    ensures stands { IfOk result (λ l. spec.stands_in in_data (shown l.statement) ≡ true) }
 {
     if are_allowed(line) {
         labelled(in_data, before_comment(line))
