@@ -19,7 +19,7 @@ or-assoc : (a b c : Option Place) → option_or (option_or a b) c ≡ option_or 
 or-assoc None b c = refl
 or-assoc (Some x) b c = refl
 
-first_of-append : (q : List ℕ) (xs ys : List (List ℕ × Place)) → first_of q (xs ++ ys) ≡ option_or (first_of q xs) (first_of q ys)
+pub first_of-append : (q : List ℕ) (xs ys : List (List ℕ × Place)) → first_of q (xs ++ ys) ≡ option_or (first_of q xs) (first_of q ys)
 unfolding first_of
 first_of-append q [] ys = refl
 first_of-append q (x ∷ xs) ys = by_first (bytes_eq q x.0) (first_of-append q xs ys)

@@ -12,3 +12,5 @@ pub mod Immediates
 pub mod Emitting
 pub mod Sizes
 pub mod Putting
+pub mod Starting
+pub mod Assembled

@@ -54,3 +54,22 @@ fn entry(labels: &HashMap<&[u8], Place>) -> u32
 {
     address_or(u64::from(TEXT_BASE), find(labels, b"_start".as_slice())) as u32
 }
+
+/// The file of a source, or its first fault.
+pub fn assemble(alloc: Global, source: &[u8]) -> Result<Vec<u8>, AsmError>
+    ensures { Assembles source.now result }
+{
+    if source.len() > SOURCE_ROOM {
+        return Err(bad(0, Fault::BadSize));
+    }
+    let layout = lay_out(alloc, source)?;
+    if let Some(found) = first_fault(source, &layout.labels) {
+        return Err(bad(found.line, found.fault));
+    }
+    if has_bad_size(layout.end) {
+        return Err(bad(0, Fault::BadSize));
+    }
+    let parts = put_lines(alloc, source, &layout.labels)?;
+    let entry = entry(&layout.labels);
+    Ok(write(alloc, entry, &parts.text_part, &parts.data_part)?)
+}

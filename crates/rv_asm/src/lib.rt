@@ -19,4 +19,5 @@ mod search;
 mod statement;
 mod tokens;
 
+pub use assembler::assemble;
 pub use error::AsmError;
