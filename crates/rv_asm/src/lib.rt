@@ -21,3 +21,4 @@ mod tokens;
 
 pub use assembler::assemble;
 pub use error::AsmError;
+pub use layout::SOURCE_ROOM;
