@@ -7,6 +7,7 @@ use Rattle.rv_asm.specs.Sources.{assembled, fault_in, numbered}
 use Rattle.rv_asm.specs.declared.fault.Fault.{Fault}
 use Rattle.rv_asm.specs.declared.layout.TheConstants.{SOURCE_ROOM}
 use Rattle.avf_tool.specs.Answers.{Answer, Text, Refused, source_answer, unless_faulty}
+use Rattle.avf_tool.specs.declared.stages.TheConstants.{BAD_SIZE, WHOLE_SOURCE}
 
 -- a source without a fault
 pub faultless : (source file : List ℕ) → fault_in source ≡ None → file ≡ assembled source → source_answer source ≡ Text file
@@ -25,7 +26,7 @@ pub faulty : (source : List ℕ) (line cause : ℕ) → option_map numbered (fau
 faulty source line cause e = numbered_told (fault_in source) line cause (Text (assembled source)) e
 
 -- one that is too long
-pub too_long : (source : List ℕ) → SOURCE_ROOM < length source → source_answer source ≡ Refused (BadSource 0 7)
+pub too_long : (source : List ℕ) → SOURCE_ROOM < length source → source_answer source ≡ Refused (BadSource WHOLE_SOURCE BAD_SIZE)
 unfolding fault_in
 too_long source long =
     let is : nat_lt SOURCE_ROOM (length source) ≡ true = grind (arith, nat_tests) in

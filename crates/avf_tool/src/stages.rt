@@ -4,7 +4,6 @@ ghost use Rattle.avf_base.specs.Refusals.{ByContents, cause_of};
 ghost use Rattle.avf_base.specs.declared.refusal.Refusal.TheVariants.{BadImage, BadSource};
 ghost use Rattle.bit_field.specs.Shapes.{IsShape};
 ghost use Rattle.avf_tool.specs.Answers.{ram_size, source_answer};
-ghost use Rattle.rv_asm.specs.declared.layout.TheConstants as source;
 ghost use Rattle.run_log.specs.Answers.{IsProgram};
 ghost use Rattle.avf_tool.specs.Stages.{IsLoaded, IsRead, IsText, Ran, Traced};
 
@@ -22,6 +21,12 @@ pub const IMAGE_LIMIT: u32 = 16_777_216;
 
 /// Why a longer image is refused, as the number of a bad image.
 pub const TOO_LONG: u8 = 13;
+
+/// The line of a fault that is the whole source's.
+pub const WHOLE_SOURCE: u32 = 0;
+
+/// Why a source of more than `SOURCE_ROOM` bytes is refused, as the cause of a bad source.
+pub const BAD_SIZE: u8 = 7;
 
 // Bytes of a MiB.
 const MIB: u32 = 1_048_576;
@@ -56,13 +61,16 @@ pub fn read_image<H: Shelf>(alloc: Global, shelf: &mut H, name: &str) -> Result<
     read_limited(alloc, shelf, name, IMAGE_LIMIT, Refusal::BadImage(TOO_LONG))
 }
 
-/// The bytes of a source. One of more than `SOURCE_ROOM` bytes is refused as a bad source: line 0, cause 7.
+/// The bytes of a source. One of more than `SOURCE_ROOM` bytes is refused as `BAD_SIZE` of the whole source.
 pub fn read_source<H: Shelf>(alloc: Global, shelf: &mut H, name: &str) -> Result<Vec<u8>, Refusal>
-    ensures read { IsRead (BadSource 0 7) source.SOURCE_ROOM (H.holds shelf.old name.now) (H.faults shelf.old) (H.faults shelf.new) result }
+    ensures read { IsRead (BadSource WHOLE_SOURCE BAD_SIZE) SOURCE_ROOM (H.holds shelf.old name.now) (H.faults shelf.old) (H.faults shelf.new) result }
     ensures keeps { (n : List ℕ) → H.holds shelf.new n ≡ H.holds shelf.old n }
     ensures later { H.faults shelf.old ≤ H.faults shelf.new }
 {
-    let long = Refusal::BadSource { line: 0, cause: 7 };
+    let long = Refusal::BadSource {
+        line: WHOLE_SOURCE,
+        cause: BAD_SIZE,
+    };
     read_limited(alloc, shelf, name, SOURCE_ROOM as u32, long)
 }
 
