@@ -92,12 +92,14 @@ pub finished : (source : List ℕ) (e : ℕ) (t d items : List ℕ) → e ≡ en
     → (items ≡ assembled source) × IsProgram source
 unfolding assembled text_part
 finished source e t d items p q r same loaded coded well =
-    let loads : IsLoaded (entry source) (text_part source) (data_part source) = rw (p, q, r) at loaded in
-    (rw (same, p, q, r) refl, record {
-      decodes = coded;
-      loads = loads;
-      refusal = λ ram fits.
-        loads.refusal ram fits
-        ∙ ap (λ t. cond {A = Option ℕ} t None (Some 12)) (begins (entry source) (length (text_part source)) (length (program source)) (length-code (program source)) well)
-        ∙ turned (eqb (entry source) (TEXT_BASE + length (text_part source)));
-    })
+    let loads : IsLoaded (entry source) (text_part source) (data_part source) = rw (p, q, r) at loaded in (
+      rw (same, p, q, r) refl,
+      record {
+        decodes = coded;
+        loads = loads;
+        refusal = λ ram fits.
+            loads.refusal ram fits
+            ∙ ap (λ t. cond {A = Option ℕ} t None (Some 12)) (begins (entry source) (length (text_part source)) (length (program source)) (length-code (program source)) well)
+            ∙ turned (eqb (entry source) (TEXT_BASE + length (text_part source)));
+      },
+    )

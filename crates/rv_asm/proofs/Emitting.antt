@@ -28,7 +28,7 @@ pub later-none : (own target : Option Place) (c : Cursor) (k : ℕ) (line : Line
 unfolding later_fault
 later-none own target c k line h =
     by_tests (is_out_of_range line.statement) (misses (address c) target line.statement) (is_start line.name && is_bad_place k own) (is_again k own)
-      (is_missing (target_of line.statement) target) h
+    (is_missing (target_of line.statement) target) h
   where
     by_tests : (a b s t u : Bool) → ◌≡◌ {A = Option Fault} (cond (a || b || s) (Some OutOfRange) (cond t (Some DefinedTwice) (cond u (Some Undefined) None))) None
         → (a ≡ false) × (b ≡ false) × (u ≡ false)

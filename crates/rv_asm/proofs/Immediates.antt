@@ -142,4 +142,5 @@ unfolding has_row form_of row_of
 short_fits rd n h g = fit I (with_immediate (plain ADDI rd 0 0) (unsigned n)) refl refl (i_fits rd 0 (unsigned n) h (lit< tt) (short_signed n g))
 
 pub ruleset pair_fits = (upper_fits, lower_fits)
+
 pub ruleset reaching = (label_fits, reaches-on, reaches-back)

@@ -38,6 +38,7 @@ passes p good (y ∷ ys) x all h = by_first (p y) refl h (λ e. passes p good ys
   where
     parts : (good y ≡ true) × (list_all good ys ≡ true)
     parts = and_parts _ _ all
+
     by_first : (t : Bool) → p y ≡ t → cond t (Some y) (find p ys) ≡ Some x → (find p ys ≡ Some x → (p x ≡ true) × (good x ≡ true)) → (p x ≡ true) × (good x ≡ true)
     by_first true f e ih = let same : y ≡ x = cc in (rw (sym same) f, rw (sym same) parts.0)
     by_first false f e ih = ih e

@@ -38,7 +38,7 @@ pub step : (labels labels' : List ℕ → Option Place) (c c' : Cursor) (k : ℕ
 unfolding definitions
 step labels labels' c c' k bytes parts rest line all cut said further more so_far q =
     let joined : first_of q (definitions c k (bytes ∷ rest)) ≡ option_or (first_of q (defined c k line)) (first_of q (definitions c' (k + 1) rest)) =
-        rw (further, said) (first_of-append q (defined c k (line_of c.in_data bytes)) (definitions (behind_line c bytes) (k + 1) rest)) in
+    rw (further, said) (first_of-append q (defined c k (line_of c.in_data bytes)) (definitions (behind_line c bytes) (k + 1) rest)) in
     ap (λ (o : Option Place). option_or o (first_of q (definitions c' (k + 1) rest))) (more q)
     ∙ or-assoc (labels q) (first_of q (defined c k line)) (first_of q (definitions c' (k + 1) rest))
     ∙ ap (option_or (labels q)) (sym joined)

@@ -30,9 +30,9 @@ statement_of-word in_data _ rest bytes f = absurd cc
 pub ruleset begun = statement_of-word
 
 pub before_colon-chain : (ts : List Token) → before_colon ts ≡ (do
-    name ← first_word ts
-    rest ← behind COLON name.1
-    Some (name.0, rest))
+  name ← first_word ts
+  rest ← behind COLON name.1
+  Some (name.0, rest))
 unfolding before_colon first_word behind
 before_colon-chain (Word word ∷ Colon ∷ ts) = refl
 before_colon-chain _ = refl

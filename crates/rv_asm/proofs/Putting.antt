@@ -34,7 +34,7 @@ pub step_code : (places : List ℕ → Option Place) (c c' : Cursor) (bytes old 
 unfolding ops_in
 step_code places c c' bytes old new all parts rest line cut said further more so_far =
     let joined : flat_map op_bytes (ops_in places c parts) ≡ flat_map op_bytes (line_ops places c line) ++ flat_map op_bytes (ops_in places c' rest) =
-        rw (cut, further, said) (flat_map-append op_bytes (line_ops places c (line_of c.in_data bytes)) (ops_in places (behind_line c bytes) rest)) in
+    rw (cut, further, said) (flat_map-append op_bytes (line_ops places c (line_of c.in_data bytes)) (ops_in places (behind_line c bytes) rest)) in
     ap (λ (t : List ℕ). t ++ flat_map op_bytes (ops_in places c' rest)) more
     ∙ append_assoc old (flat_map op_bytes (line_ops places c line)) (flat_map op_bytes (ops_in places c' rest))
     ∙ ap (λ (t : List ℕ). old ++ t) (sym joined) ∙ so_far

@@ -70,10 +70,13 @@ word_front (b ∷ bs) h = front (cases_Bool (begins_word bs)) (word_front bs)
   where
     parts : (not (is_blank b) ≡ true) × (not (is_mark b) ≡ true)
     parts = and_parts _ _ h
+
     plain : is_blank b ≡ false
     plain = not-true _ parts.0
+
     no_mark : is_mark b ≡ false
     no_mark = not-true _ parts.1
+
     front : (begins_word bs ≡ true) ⊎ (begins_word bs ≡ false)
         → (begins_word bs ≡ true → tokens bs ≡ Word (take (prefix_len is_word_byte bs) bs) ∷ tokens (drop (prefix_len is_word_byte bs) bs))
         → tokens (b ∷ bs) ≡ Word (take (prefix_len is_word_byte (b ∷ bs)) (b ∷ bs)) ∷ tokens (drop (prefix_len is_word_byte (b ∷ bs)) (b ∷ bs))
@@ -130,12 +133,12 @@ behind_mark : (mark b : ℕ) (ts : List Token) → is_mark b ≡ true → behind
 unfolding behind
 behind_mark mark b ts q = elim (or_cases _ _ q) [
   | inl q ↦ elim (or_cases _ _ q) [
-      | inl q ↦ elim (or_cases _ _ q) [
-          | inl q ↦ let e : b ≡ COMMA = eqb-true _ _ q in rw e refl
-          | inr q ↦ let e : b ≡ COLON = eqb-true _ _ q in rw e refl
-        ]
-      | inr q ↦ let e : b ≡ OPEN = eqb-true _ _ q in rw e refl
+    | inl q ↦ elim (or_cases _ _ q) [
+      | inl q ↦ let e : b ≡ COMMA = eqb-true _ _ q in rw e refl
+      | inr q ↦ let e : b ≡ COLON = eqb-true _ _ q in rw e refl
     ]
+    | inr q ↦ let e : b ≡ OPEN = eqb-true _ _ q in rw e refl
+  ]
   | inr q ↦ let e : b ≡ CLOSE = eqb-true _ _ q in rw e refl
 ]
 

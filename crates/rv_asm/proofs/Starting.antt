@@ -119,6 +119,6 @@ starts_well places c k (bytes ∷ rest) own none known found =
     let here_none : fault_of places c k line ≡ None = faultless places c k bytes (bytes ∷ rest) rest line refl refl none in
     let rest_none : first_fault places (passed c line) (k + 1) rest ≡ None = go_on places c (passed c line) k bytes (bytes ∷ rest) rest line None refl refl refl (sym here_none) none in
     here_or_later places c k line rest own (end_of (behind_line c bytes) rest) here_none known
-      (sym (first_of-append start_name (defined c k line) (definitions (passed c line) (k + 1) rest)) ∙ found)
-      (end_of-le c (bytes ∷ rest))
-      (λ h. starts_well places (passed c line) (k + 1) rest own rest_none known h)
+    (sym (first_of-append start_name (defined c k line) (definitions (passed c line) (k + 1) rest)) ∙ found)
+    (end_of-le c (bytes ∷ rest))
+    (λ h. starts_well places (passed c line) (k + 1) rest own rest_none known h)

@@ -13,7 +13,7 @@ use Rattle.rv_asm.proofs.code.put_lines.Given as goal
 abbrev pub invariant-loop-rest : goal.invariant-loop-rest
 invariant-loop-rest l = record {
   code : l.text_part.items ++ flat_map op_bytes (ops_in (found l.labels) l.cursor (lines l.rest))
-    ≡ flat_map op_bytes (ops_in (found l.labels) start (lines l.fn.source));
+      ≡ flat_map op_bytes (ops_in (found l.labels) start (lines l.fn.source));
   contents : l.data_part.items ++ bytes_in l.cursor (lines l.rest) ≡ bytes_in start (lines l.fn.source);
   coded : AllByRecursion IsCoded (ops_in (found l.labels) l.cursor (lines l.rest)) → AllByRecursion IsCoded (ops_in (found l.labels) start (lines l.fn.source));
   end : end_of l.cursor (lines l.rest) ≡ end_of start (lines l.fn.source);
