@@ -15,7 +15,8 @@ use Rattle.avf_tool.specs.Answers.{ram_size}
 use Rattle.avf_tool.specs.Law.{ProgramLaw}
 use Rattle.avf_tool.proofs.Rams.{ram_fits}
 
-is_program : (image : LoadedImage) (shape : Shape) (budget : ℕ) (run : RecordedRun) → IsImage image → IsShape shape → IsRecordOf image shape budget run → IsProgram run
+is_program : (image : LoadedImage) (shape : Shape) (budget : ℕ) (run : RecordedRun) → IsImage image → IsShape shape → IsRecordOf image shape budget run
+    → IsProgram run
 is_program image shape budget run is fits h =
     program run (run-law run.image run.shape (subst IsImage (sym h.image_is) is) (subst IsShape (sym h.shape_is) fits)) h.is_record
 

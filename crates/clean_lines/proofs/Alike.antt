@@ -1,10 +1,10 @@
 -- Cycles that are seen alike do the same.
-use Rattle.std.proofs.Common.{◌≡◌, ℕ, zero, suc, ◌+◌, ◌<◌, refl, sym, ◌∙◌, ap, arith}
-use Rattle.std.specs.Prelude.{List, Option, Some, None, if◌then◌else◌}
+use Rattle.std.proofs.Common.{ℕ, zero, suc, ◌+◌, refl, sym, ◌∙◌, ap, arith}
+use Rattle.std.specs.Prelude.{List, if◌then◌else◌}
 use Rattle.avf_base.specs.declared.end.End.{End}
 use Rattle.rv_isa.specs.Instruction.{Log, logged}
-use Rattle.cyc_machine.specs.Cycle.{done_in, end_in, event_in, put_in, retires}
-use Rattle.cyc_machine.specs.Run.{EndsIn, RunsFor, events_after, log_after, output_after, retired_after, state_after, with_one}
+use Rattle.cyc_machine.specs.Cycle.{done_in, event_in, put_in, retires}
+use Rattle.cyc_machine.specs.Run.{EndsIn, events_after, log_after, output_after, retired_after, state_after, with_one}
 use Rattle.cyc_machine.specs.State.{State}
 use Rattle.clean_lines.specs.CleanCycle.{SameCycle}
 use Rattle.clean_lines.specs.CleanLaw.{DoesAlike}

@@ -1,46 +1,33 @@
 -- A load takes the bytes of its lanes alone: caches that agree on them serve it alike.
-use Rattle.std.proofs.Common.{◌≡◌, ◌⊎◌, inl, inr, ℕ, ◌+◌, ◌*◌, ◌/◌, ◌%◌, ◌^◌, ◌<◌, ◌≤◌, Bool, true, false, cond, List, length, lit<, refl, sym, ◌∙◌}
-use Rattle.std.proofs.Common.{ap, arith, subst}
-use Rattle.std.specs.Prelude.{⊤, Option, Some, None, ◌==◌, ◌&&◌, nat_lt, slice_index, if◌then◌else◌}
+use Rattle.std.proofs.Common.{◌≡◌, ℕ, ◌+◌, ◌*◌, ◌/◌, ◌%◌, ◌^◌, ◌<◌, Bool, true, false, List, refl, sym, ◌∙◌}
+use Rattle.std.proofs.Common.{ap, arith}
+use Rattle.std.specs.Prelude.{⊤, Option, Some, if◌then◌else◌}
 use Rattle.std.specs.List.{All}
-use Rattle.std.proofs.Math.ListN.{get_or-eq_default}
-use Rattle.std.proofs.lemmas.Bool.{cases_lt}
-use Rattle.std.proofs.lemmas.Bool.Decides.{nat_tests}
-use Rattle.std.proofs.lemmas.List.Elements.{All-get_or}
 use Rattle.elf_load.specs.Image.{LoadedImage, word_in_ram}
-use Rattle.rv_table.specs.Accesses.{accesses, byte_of, lane_mask, load_size}
+use Rattle.rv_table.specs.Accesses.{byte_of, lane_mask, load_size}
 use Rattle.rv_table.specs.declared.action.Action.{Action}
 use Rattle.rv_table.specs.declared.action.Action.TheVariants.{Nothing, Writes, Loads, Stores, Puts, Exits, Traps}
 use Rattle.rv_table.specs.declared.operation.LoadKind.{LoadKind}
-use Rattle.rv_table.proofs.Loads.{loaded-same, same_word}
-use Rattle.rv_table.proofs.Stores.{load_mask-bit}
-use Rattle.bit_field.specs.Lanes.{has_lane, lane_byte}
+use Rattle.rv_table.proofs.Loads.{loaded-same}
+use Rattle.bit_field.specs.Lanes.{has_lane}
 use Rattle.store_buf.specs.Covers.{covered}
 use Rattle.store_buf.specs.Entry.{Entry}
 use Rattle.store_buf.specs.declared.cover.Cover.{Cover}
 use Rattle.store_buf.specs.declared.cover.Cover.TheVariants.{Full, Part, None as Uncovered}
-use Rattle.wb_cache.specs.Access.{found, word_at, word_of}
-use Rattle.wb_cache.specs.Contents.{Contents, Slot, no_slot, slot_at, slot_of, slots}
+use Rattle.wb_cache.specs.Access.{found, word_at}
+use Rattle.wb_cache.specs.Contents.{Contents, Slot, slots}
 use Rattle.wb_cache.specs.Lookup.{set_of}
 use Rattle.wb_cache.proofs.Bytes.{slot_byte-below}
 use Rattle.wb_cache.proofs.Hits.{word_of-hit}
 use Rattle.wb_cache.proofs.Lanes.{lane-word_at}
 use Rattle.cyc_machine.specs.Cycle.{lanes_of}
+use Rattle.cyc_machine.proofs.LoadedLanes.{lane-byte, named-lane}
 use Rattle.cyc_machine.specs.Memory.{covered_value, load_value, loaded_of, served, served_by, value_read, word_read}
 use Rattle.cyc_machine.specs.declared.port.Move.{Move}
 use Rattle.cyc_machine.specs.declared.port.Move.TheVariants.{Rests, Reads, Drains, Misses, Waits, Leaves, Fills}
 
--- a lane's byte of a word
-lane-byte : (value lane : ℕ) → lane < 4 → lane_byte value lane ≡ byte_of value lane
-unfolding byte_of
-lane-byte value lane h = grind (arith, nat_tests)
-
 byte-read : (slot : Slot) (word lane : ℕ) → ((o : ℕ) → slot.bytes o < 256) → lane < 4 → byte_of (word_at slot word) lane ≡ slot.bytes (4 * word + lane)
 byte-read slot word lane below l = sym (lane-byte (word_at slot word) lane l) ∙ lane-word_at slot word lane below l
-
--- a lane that is accessed is named by the mask
-named : (kind : LoadKind) (x p : ℕ) → accesses (load_size kind) x p ≡ true → has_lane (lane_mask (load_size kind) x) (p % 4) ≡ true
-named kind x p a = ap (λ n. n == 1) (load_mask-bit kind x p (same_word kind x p a) ∙ ap (λ b. if b then 1 else 0) a)
 
 -- two slots agree on the lanes of a word that a mask names
 abbrev pub AgreeOn : ℕ → ℕ → Slot → Slot → Type 0
@@ -50,7 +37,7 @@ loaded-lanes : (kind : LoadKind) (x word : ℕ) (a b : Slot) → ((o : ℕ) → 
     → AgreeOn (lane_mask (load_size kind) x) word a b → loaded_of kind x (word_at a word) ≡ loaded_of kind x (word_at b word)
 loaded-lanes kind x word a b p q same =
     loaded-same kind x (λ n. byte_of (word_at a word) (n % 4)) (λ n. byte_of (word_at b word) (n % 4))
-    (λ n acc. byte-read a word (n % 4) p (omega arith) ∙ same (n % 4) (omega arith) (named kind x n acc) ∙ sym (byte-read b word (n % 4) q (omega arith)))
+    (λ n acc. byte-read a word (n % 4) p (omega arith) ∙ same (n % 4) (omega arith) (named-lane kind x n acc) ∙ sym (byte-read b word (n % 4) q (omega arith)))
 
 covered-same : (o : Cover) (kind : LoadKind) (x : ℕ) (r q : Option ℕ) → value_read r kind x ≡ value_read q kind x
     → covered_value o r kind x ≡ covered_value o q kind x
@@ -85,7 +72,7 @@ module _ (image : LoadedImage) (stores : List Entry) (a b : Slot) (word : ℕ) (
 abbrev pub ReadsAlike : Contents → Contents → Action → Move → Type 0
 ReadsAlike d c m (Reads word way) =
     (found d (word / 4) ≡ Some way) × (found c (word / 4) ≡ Some way) × (d.shape ≡ c.shape)
-        × AgreeOn (lanes_of m) (word % 4) (slots d (set_of c.shape (word / 4)) way) (slots c (set_of c.shape (word / 4)) way)
+    × AgreeOn (lanes_of m) (word % 4) (slots d (set_of c.shape (word / 4)) way) (slots c (set_of c.shape (word / 4)) way)
 ReadsAlike d c m _ = ⊤
 
 pub served-alike : (image : LoadedImage) (m : Action) (stores : List Entry) (d c : Contents) (v : Move) → All (λ b. b < 2 ^ 8) d.bytes
@@ -94,7 +81,7 @@ pub served-alike : (image : LoadedImage) (m : Action) (stores : List Entry) (d c
 unfolding word_read
 served-alike image m stores d c (Reads word way) p q h =
     ap (served image m stores) (word_of-hit d (word / 4) (word % 4) way (sym h.0)
-        ∙ ap (λ sh. Some (word_at (slots d (set_of sh (word / 4)) way) (word % 4))) h.2)
+    ∙ ap (λ sh. Some (word_at (slots d (set_of sh (word / 4)) way) (word % 4))) h.2)
     ∙ word-served image stores (slots d (set_of c.shape (word / 4)) way) (slots c (set_of c.shape (word / 4)) way) (word % 4)
     (λ o. slot_byte-below d (set_of c.shape (word / 4)) way o p) (λ o. slot_byte-below c (set_of c.shape (word / 4)) way o q) m h.3
     ∙ ap (served image m stores) (sym (word_of-hit c (word / 4) (word % 4) way (sym h.1)))

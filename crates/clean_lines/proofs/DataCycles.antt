@@ -1,9 +1,8 @@
 -- The cycle from a state with a struck data bit of a clean line.
-use Rattle.std.proofs.Common.{◌≡◌, ◌≢◌, ℕ, ◌+◌, ◌*◌, ◌/◌, ◌%◌, ◌^◌, ◌<◌, Bool, true, false, List, length, get_or, refl, sym, ◌∙◌, ap, arith, subst}
-use Rattle.std.specs.Prelude.{⊤, Option, Some, None, ◌==◌, ◌&&◌, bit_xor, slice_index_or, slice_set, if◌then◌else◌}
+use Rattle.std.proofs.Common.{◌≡◌, ℕ, ◌+◌, ◌*◌, ◌/◌, ◌%◌, ◌^◌, ◌<◌, Bool, true, false, List, length, refl, sym, ◌∙◌, ap, arith, subst}
+use Rattle.std.specs.Prelude.{Option, ◌==◌, ◌&&◌, bit_xor, slice_index_or, slice_set, if◌then◌else◌}
 use Rattle.std.specs.List.{All}
 use Rattle.std.proofs.lemmas.Bool.{eqb-true, eq-eqb}
-use Rattle.std.proofs.lemmas.Bool.Decides.{nat_tests}
 use Rattle.std.proofs.lemmas.List.{get_or-set_same, set-get_or}
 use Rattle.std.proofs.lemmas.List.Elements.{All-set}
 use Rattle.bit_field.proofs.Bits.{flip_below}
@@ -12,14 +11,14 @@ use Rattle.bit_field.specs.Shapes.{slots as slot_count}
 use Rattle.elf_load.proofs.ByteLists.{index-below}
 use Rattle.store_buf.specs.Entry.{Entry}
 use Rattle.store_buf.specs.Pending.{pending}
-use Rattle.wb_cache.specs.Contents.{Contents, slot_at, slot_of, slots}
+use Rattle.wb_cache.specs.Contents.{Contents, slot_at, slot_of}
 use Rattle.wb_cache.specs.Lookup.{set_of}
 use Rattle.wb_cache.specs.Refill.{way_for}
 use Rattle.event_log.specs.Nexts.{told_by}
 use Rattle.event_log.specs.declared.next.Next.TheVariants.{Ends}
 use Rattle.wb_cache.specs.declared.event.EventKind.TheVariants.{Read, Write, Miss, Fill}
-use Rattle.cyc_machine.specs.Cycle.{action_in_m, cycle, cycled, event_by, event_in, lanes_of, move, served_m}
-use Rattle.cyc_machine.specs.EventsLaw.{Clean, Dirty, Held, IsHeld}
+use Rattle.cyc_machine.specs.Cycle.{action_in_m, cycle, cycled, event_by, lanes_of, move, served_m}
+use Rattle.cyc_machine.specs.EventsLaw.{Clean, Dirty, IsHeld}
 use Rattle.cyc_machine.specs.Memory.{cache_after, load_client, memory_after, served, store_client, word_read}
 use Rattle.cyc_machine.specs.Sizes.{IsSteady}
 use Rattle.cyc_machine.specs.State.{State}
@@ -34,18 +33,7 @@ use Rattle.clean_lines.proofs.BytesRead.{ReadsAlike, served-alike}
 use Rattle.clean_lines.proofs.DataMoves.{byte-off, memory-kept, read-kept, refilled-gone, refilled-kept, with_byte, written-gone, written-kept}
 use Rattle.clean_lines.proofs.OtherBytes.{found-other, move-other}
 use Rattle.clean_lines.proofs.OtherCache.{cycle-other, same-other}
-use Rattle.clean_lines.proofs.Stays.{held-cycle, held_then, line_at}
-
--- a slot that holds a line
-clean-held : (c : Contents) (l line : ℕ) → IsHeld c l (Clean line) → IsCleanSlot c l
-clean-held c l line h = record { valid = h.0; clean = h.1 }
-
-dirty-held : (c : Contents) (l line : ℕ) → IsHeld c l (Dirty line) → IsDirtySlot c l
-dirty-held c l line h = record { valid = h.0; dirty = h.1 }
-
-clean-either : (c : Contents) (l line : ℕ) (b : Bool) → IsHeld c l (if b then Clean line else Clean line) → IsCleanSlot c l
-clean-either c l line true h = clean-held c l line h
-clean-either c l line false h = clean-held c l line h
+use Rattle.clean_lines.proofs.Stays.{clean-held, dirty-held, held-cycle, held_then, line_at, other-slot}
 
 -- the lanes of a word of a slot that is another one, or of another word, or that don't name the byte
 off-lanes : (slot l word byte mask lane : ℕ) → (slot == l && (word == byte / 4 && has_lane mask (byte % 4))) ≡ false → lane < 4
@@ -81,9 +69,6 @@ both-not m n b h p q = clash (m == n) b (eq-eqb m n p) q h
     clash true true p q h = cc
     clash false b p q h = cc
     clash true false p q h = cc
-
-other-slot : (m n : ℕ) → (m == n) ≡ false → m ≡ n → ⊥
-other-slot m n h p = let e : (m == n) ≡ true = eq-eqb m n p in cc
 
 module _ (s : State) (k : ℕ) (is : IsSteady s) (below : k < slot_count s.cache.shape * 128) (clean : IsCleanSlot s.cache (k / 128)) where
   abbrev c : Contents
@@ -132,8 +117,10 @@ module _ (s : State) (k : ℕ) (is : IsSteady s) (below : k < slot_count s.cache
 
   -- what a move must leave as it was for the byte to go on alone
   record Keeps (v : Move) : Type 0 where
-    cache : (y : ℕ) → cache_after s.image v s.memory (with_byte c l byte y) ≡ record (cache_after s.image v s.memory c) { bytes =
-        slice_set (cache_after s.image v s.memory c).bytes (16 * l + byte) y }
+    cache : (y : ℕ) → cache_after s.image v s.memory (with_byte c l byte y) ≡ record (cache_after s.image v s.memory c) {
+      bytes =
+          slice_set (cache_after s.image v s.memory c).bytes (16 * l + byte) y;
+    }
     memory : memory_after s.image v d s.memory ≡ memory_after s.image v c s.memory
     reads : ReadsAlike d c (action_in_m s) v
 
@@ -157,10 +144,10 @@ module _ (s : State) (k : ℕ) (is : IsSteady s) (below : k < slot_count s.cache
   unfolding cycled
   next-byte h =
       let e : (cycle s).cache.bytes ≡ slice_set (cycle s).cache.bytes (16 * l + byte) (slice_index_or c.bytes (16 * l + byte) 0) =
-          ap (λ (bs : List ℕ). (cache_after s.image (move s) s.memory (record c { bytes = bs })).bytes) (sym (set-get_or c.bytes (16 * l + byte) 0))
-          ∙ ap (λ (a : Contents). a.bytes) (h.cache (slice_index_or c.bytes (16 * l + byte) 0)) in
+      ap (λ (bs : List ℕ). (cache_after s.image (move s) s.memory (record c { bytes = bs })).bytes) (sym (set-get_or c.bytes (16 * l + byte) 0))
+      ∙ ap (λ (a : Contents). a.bytes) (h.cache (slice_index_or c.bytes (16 * l + byte) 0)) in
       rw place (ap (λ (bs : List ℕ). slice_index_or bs (16 * l + byte) 0) e
-          ∙ get_or-set_same (cycle s).cache.bytes (16 * l + byte) (slice_index_or c.bytes (16 * l + byte) 0) 0 next-long)
+      ∙ get_or-set_same (cycle s).cache.bytes (16 * l + byte) (slice_index_or c.bytes (16 * l + byte) 0) 0 next-long)
 
   kept : Keeps (move s) → cycle (data_struck k s) ≡ data_struck k (cycle s)
   unfolding cycled
@@ -168,8 +155,11 @@ module _ (s : State) (k : ℕ) (is : IsSteady s) (below : k < slot_count s.cache
       ap (λ (u : State). cycle u) struck-is
       ∙ cycle-other s d moves (serves h.reads)
       ∙ ap (λ (a : Contents). record (cycle s) { cache = a; memory = memory_after s.image (move s) d s.memory }) (h.cache x)
-      ∙ ap (λ (m : List ℕ). record (cycle s) { cache = record (cycle s).cache { bytes = slice_set (cycle s).cache.bytes (16 * l + byte) x }; memory =
-          m }) h.memory
+      ∙ ap (λ (m : List ℕ). record (cycle s) {
+        cache = record (cycle s).cache { bytes = slice_set (cycle s).cache.bytes (16 * l + byte) x };
+        memory =
+            m;
+      }) h.memory
       ∙ ap (λ i. record (cycle s) { cache = record (cycle s).cache { bytes = slice_set (cycle s).cache.bytes i x } }) (sym place)
       ∙ ap (λ v. record (cycle s) { cache = record (cycle s).cache { bytes = slice_set (cycle s).cache.bytes (k / 8) (flipped v) } }) (sym (next-byte h))
 
@@ -203,8 +193,16 @@ module _ (s : State) (k : ℕ) (is : IsSteady s) (below : k < slot_count s.cache
 
   still : Keeps Rests × Keeps Waits × Keeps Leaves
   unfolding cache_after memory_after
-  still = (record { cache = λ y. refl; memory = refl; reads = tt }, record { cache = λ y. refl; memory = refl; reads = tt }, record { cache =
-      λ y. refl; memory = refl; reads = tt })
+  still = (
+    record { cache = λ y. refl; memory = refl; reads = tt },
+    record { cache = λ y. refl; memory = refl; reads = tt },
+    record {
+      cache =
+          λ y. refl;
+      memory = refl;
+      reads = tt;
+    },
+  )
 
   missed : (m way count : ℕ) (owner : Bool) → Keeps (Misses m way count owner)
   unfolding cache_after memory_after
@@ -220,10 +218,15 @@ module _ (s : State) (k : ℕ) (is : IsSteady s) (below : k < slot_count s.cache
       keeps off = unfold cache_after in unfold memory_after in record {
         cache = λ y. read-kept s.image s.memory c l byte y is.image is.memory is.cache slot-below (omega arith) not-dirty (word / 4) way t.1;
         memory = refl;
-        reads = (found-other c (slice_set c.bytes (16 * l + byte) x) (word / 4) ∙ t.1, t.1, refl,
+        reads = (
+          found-other c (slice_set c.bytes (16 * l + byte) x) (word / 4) ∙ t.1,
+          t.1,
+          refl,
           λ lane m on. byte-off c l byte x (set_of c.shape (word / 4)) way (4 * (word % 4) + lane) (omega arith)
-          (λ p q. off-lanes (slot_of c.shape (set_of c.shape (word / 4)) way) l (word % 4) byte (lanes_of (action_in_m s)) lane off m on p q));
+              (λ p q. off-lanes (slot_of c.shape (set_of c.shape (word / 4)) way) l (word % 4) byte (lanes_of (action_in_m s)) lane off m on p q),
+        );
       }
+
       go : (a h : Bool)
           → (slot_of c.shape (set_of c.shape (word / 4)) way == l && (word % 4 == byte / 4 && has_lane (lanes_of (action_in_m s)) (byte % 4))) ≡ (a && h)
           → IsHeld (cycle s).cache l (if a then Clean (line_at c l) else Clean (line_at c l))
@@ -248,6 +251,7 @@ module _ (s : State) (k : ℕ) (is : IsSteady s) (below : k < slot_count s.cache
     where
       slot : ℕ
       slot = slot_of c.shape (set_of c.shape (w.addr / 4)) way
+
       keeps : (slot ≡ l → w.addr % 4 ≡ byte / 4 → has_lane w.mask (byte % 4) ≡ true → ⊥) → Keeps (Drains w way)
       keeps off = unfold cache_after in unfold memory_after in record {
         cache = λ y. written-kept s.image s.memory c l byte y is.image is.memory is.cache slot-below (omega arith) not-dirty (w.addr / 4)
@@ -255,6 +259,7 @@ module _ (s : State) (k : ℕ) (is : IsSteady s) (below : k < slot_count s.cache
         memory = refl;
         reads = tt;
       }
+
       settles : slot ≡ l → w.addr % 4 ≡ byte / 4 → has_lane w.mask (byte % 4) ≡ true → Settles (Drains w way)
       settles p q r = unfold cache_after in unfold memory_after in record {
         cache = written-gone s.image s.memory c l byte x is.image is.memory is.cache slot-below (omega arith) not-dirty (w.addr / 4)
@@ -262,6 +267,7 @@ module _ (s : State) (k : ℕ) (is : IsSteady s) (below : k < slot_count s.cache
         memory = refl;
         reads = tt;
       }
+
       go : (a h : Bool) → (slot == l) ≡ a → (w.addr % 4 == byte / 4 && has_lane w.mask (byte % 4)) ≡ h
           → IsHeld (cycle s).cache l (if a then Dirty (w.addr / 4) else Clean (line_at c l))
           → DataCycleBy s k (if a && true then told_by Write h s.cycle else Ends)
@@ -279,24 +285,27 @@ module _ (s : State) (k : ℕ) (is : IsSteady s) (below : k < slot_count s.cache
     where
       at : slot_of c.shape (set_of c.shape m) way ≡ slot_of c.shape (set_of c.shape m) (way_for c m)
       at = ap (slot_of c.shape (set_of c.shape m)) t.1
+
       keeps : (slot_of c.shape (set_of c.shape m) (way_for c m) ≡ l → ⊥) → Keeps (Fills m way)
       keeps off = unfold cache_after in unfold memory_after in record {
         cache = λ y. refilled-kept s.image s.memory c l byte y is.image is.memory is.cache slot-below (omega arith) not-dirty m off;
         memory = memory-kept s.image s.memory c l byte x is.image is.memory is.cache slot-below (omega arith) not-dirty m;
         reads = tt;
       }
+
       settles : slot_of c.shape (set_of c.shape m) (way_for c m) ≡ l → Settles (Fills m way)
       settles p = unfold cache_after in unfold memory_after in record {
         cache = refilled-gone s.image s.memory c l byte x is.image is.memory is.cache slot-below (omega arith) not-dirty m p;
         memory = memory-kept s.image s.memory c l byte x is.image is.memory is.cache slot-below (omega arith) not-dirty m;
         reads = tt;
       }
+
       go : (a : Bool) → (slot_of c.shape (set_of c.shape m) way == l) ≡ a → IsHeld (cycle s).cache l (if a then Clean m else Clean (line_at c l))
           → DataCycleBy s k (if a && true then told_by Fill (0 == byte / 4 && has_lane 0 (byte % 4)) s.cycle else Ends)
       go true p g = ends (Fills m way) e (settles (sym at ∙ eqb-true (slot_of c.shape (set_of c.shape m) way) l p))
       go false p g =
           in-step (Fills m way) e (keeps (λ q. other-slot (slot_of c.shape (set_of c.shape m) way) l p (at ∙ q)))
-              (clean-held (cycle s).cache l (line_at c l) g)
+          (clean-held (cycle s).cache l (line_at c l) g)
 
   by-move : (v : Move) → move s ≡ v → Tells c load store v → Told v
   by-move Rests e t = in-step Rests e still.0 (clean-held (cycle s).cache l (line_at c l) (held Rests e))

@@ -1,26 +1,24 @@
 -- A byte of a clean line slot is another one: what a move of the port makes of the cache, and that main memory is the same.
 use Rattle.std.proofs.Common.{◌≡◌, ◌≢◌, ◌⊎◌, inl, inr, ℕ, ◌+◌, ◌*◌, ◌/◌, ◌%◌, ◌<◌, ◌≤◌, Bool, true, false, cond, List, length, get_or, refl, sym, ◌∙◌}
-use Rattle.std.proofs.Common.{ap, arith, subst}
-use Rattle.std.proofs.Math.ListN.{length-set}
-use Rattle.std.specs.Prelude.{Some, ◌==◌, ◌&&◌, nat_lt, slice_index, slice_index_or, slice_range, slice_set}
+use Rattle.std.proofs.Common.{ap, arith}
+use Rattle.std.specs.Prelude.{Some, ◌&&◌, nat_lt, slice_index, slice_index_or, slice_set}
 use Rattle.std.specs.List.{replace_range}
 use Rattle.std.proofs.lemmas.Bool.{cases_eq, cases_lt}
 use Rattle.std.proofs.lemmas.Bool.Decides.{nat_tests}
-use Rattle.std.proofs.lemmas.List.{get_or-set_other, get_or-set_same, set-get_or}
+use Rattle.std.proofs.lemmas.List.{get_or-set_other}
 use Rattle.bit_field.specs.Lanes.{has_lane}
 use Rattle.bit_field.specs.Shapes.{slots as slot_count}
 use Rattle.elf_load.specs.Image.{LoadedImage, IsImage}
-use Rattle.wb_cache.specs.Access.{found, put, put_word, read, touched, written as written_word}
+use Rattle.wb_cache.specs.Access.{found, put, put_word, read, written as written_word}
 use Rattle.wb_cache.specs.Contents.{Contents, IsSized, no_slot, slot_at, slot_of, slots}
-use Rattle.wb_cache.specs.Lookup.{line_of, set_of, tag_of}
+use Rattle.wb_cache.specs.Lookup.{line_of, set_of}
 use Rattle.wb_cache.specs.Refill.{filled, line_bytes, memory_refilled, put_line, refilled, way_for, written_back}
 use Rattle.wb_cache.proofs.Calls.{length-after_refill}
 use Rattle.wb_cache.proofs.Hits.{read-hit, written-hit}
-use Rattle.wb_cache.proofs.Lengths.{length-put_word, length-replace}
 use Rattle.wb_cache.proofs.Ram.{length-line_bytes}
 use Rattle.wb_cache.proofs.Sizes.{set_below, slot_below}
-use Rattle.wb_cache.proofs.Victims.{victim-below, way_of-below}
-use Rattle.clean_lines.proofs.Lists.{put_word-off, put_word-on, range-off, replace-off, replace-on}
+use Rattle.wb_cache.proofs.Victims.{victim-below}
+use Rattle.clean_lines.proofs.Lists.{not_back, put_word-off, put_word-on, range-off, replace-off, replace-on}
 use Rattle.clean_lines.proofs.OtherBytes.{found-other, way_for-other}
 
 -- the contents with byte `byte` of slot l set
@@ -39,14 +37,11 @@ byte-off c l byte x set way o h off = go (nat_lt set c.shape.sets && nat_lt way 
     inner true e = get_or-set_other c.bytes (16 * l + byte) (16 * slot_of c.shape set way + o) x 0
         (λ same. let m : o < 16 = grind (arith, nat_tests) in off (omega arith) (omega arith))
     inner false e = refl
+
     go : (b : Bool)
         → (cond b (slot_at (with_byte c l byte x) (slot_of c.shape set way)) no_slot).bytes o ≡ (cond b (slot_at c (slot_of c.shape set way)) no_slot).bytes o
     go true = unfold slot_at in inner (nat_lt o 16) refl
     go false = refl
-
-not_back : (v b : Bool) (xs ys : List ℕ) → b ≡ false → cond (v && b) xs ys ≡ ys
-not_back true b xs ys e = rw e refl
-not_back false b xs ys e = refl
 
 module _ (image : LoadedImage) (memory : List ℕ) (c : Contents) (l byte x : ℕ) (is : IsImage image) (long : length memory ≡ length image.ram)
     (sized : IsSized c)
@@ -65,8 +60,10 @@ module _ (image : LoadedImage) (memory : List ℕ) (c : Contents) (l byte x : �
   -- a write that doesn't write the byte
   pub written-kept : (line word mask value way : ℕ) → found c line ≡ Some way → word < 4
       → (slot_of c.shape (set_of c.shape line) way ≡ l → word ≡ byte / 4 → has_lane mask (byte % 4) ≡ true → ⊥)
-      → written_word line word mask value d ≡ record (written_word line word mask value c) { bytes =
-          slice_set (written_word line word mask value c).bytes j x }
+      → written_word line word mask value d ≡ record (written_word line word mask value c) {
+        bytes =
+            slice_set (written_word line word mask value c).bytes j x;
+      }
   unfolding put
   written-kept line word mask value way h w off =
       written-hit d line word mask value way (sym (found-other c (slice_set c.bytes j x) line ∙ h))
@@ -97,14 +94,14 @@ module _ (image : LoadedImage) (memory : List ℕ) (c : Contents) (l byte x : �
       go (inl e) =
           let none : slice_index_or c.dirty (slot_of c.shape set way) false ≡ false = ap (λ i. slice_index_or c.dirty i false) e ∙ clean in
           unfold written_back in (not_back (slice_index_or c.valid (slot_of c.shape set way) false)
-              (slice_index_or c.dirty (slot_of c.shape set way) false) _ memory none
+          (slice_index_or c.dirty (slot_of c.shape set way) false) _ memory none
           ∙ sym (not_back (slice_index_or c.valid (slot_of c.shape set way) false) (slice_index_or c.dirty (slot_of c.shape set way) false) _ memory none))
       go (inr ne) =
           unfold written_back in ap (λ (bs : List ℕ). cond
-              (slice_index_or c.valid (slot_of c.shape set way) false && slice_index_or c.dirty (slot_of c.shape set way) false)
+          (slice_index_or c.valid (slot_of c.shape set way) false && slice_index_or c.dirty (slot_of c.shape set way) false)
           (put_line image (line_of c.shape set (slice_index c.tags (slot_of c.shape set way))) bs memory) memory)
           (range-off c.bytes (16 * slot_of c.shape set way) (16 * slot_of c.shape set way + 16) j x
-              (elim (cases_lt (slot_of c.shape set way) l) [ inl m ↦ inr (omega arith) | inr m ↦ inl (omega arith) ]))
+          (elim (cases_lt (slot_of c.shape set way) l) [ inl m ↦ inr (omega arith) | inr m ↦ inl (omega arith) ]))
 
   pub memory-kept : (line : ℕ) → memory_refilled image line d memory ≡ memory_refilled image line c memory
   unfolding memory_refilled
@@ -132,7 +129,7 @@ module _ (image : LoadedImage) (memory : List ℕ) (c : Contents) (l byte x : �
   start-below : (line : ℕ) → start line + 16 ≤ length c.bytes
   start-below line =
       let b = slot_below c.shape (set_of c.shape line) (way_for c line) sized.shape (set_below c.shape line sized.shape)
-          (victim-below c.shape (slots c) c.nodes (set_of c.shape line) sized.shape) in
+      (victim-below c.shape (slots c) c.nodes (set_of c.shape line) sized.shape) in
       omega (arith, b, sized.bytes)
 
   pub refilled-kept : (line : ℕ) → (slot_of c.shape (set_of c.shape line) (way_for c line) ≡ l → ⊥)
@@ -140,7 +137,7 @@ module _ (image : LoadedImage) (memory : List ℕ) (c : Contents) (l byte x : �
   refilled-kept line ne =
       refilled-by line (λ bs. slice_set bs j x)
       (replace-off c.bytes (line_bytes image line (memory_refilled image line c memory)) (start line) (start line + 16) j x
-          (omega (arith, long-line line)) (start-below line)
+      (omega (arith, long-line line)) (start-below line)
       (elim (cases_lt (slot_of c.shape (set_of c.shape line) (way_for c line)) l) [ inl m ↦ inr (omega arith) | inr m ↦ inl (omega arith) ]))
 
   pub refilled-gone : (line : ℕ) → slot_of c.shape (set_of c.shape line) (way_for c line) ≡ l → refilled image line memory d ≡ refilled image line memory c

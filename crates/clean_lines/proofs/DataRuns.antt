@@ -1,7 +1,7 @@
 -- Many cycles from a state with a struck data bit of a clean line.
-use Rattle.std.proofs.Common.{◌≡◌, ◌≤◌, ℕ, zero, suc, ◌+◌, ◌-◌, ◌*◌, ◌/◌, ◌%◌, ◌<◌, Bool, true, false, cond, List, [], ◌∷◌, ◌++◌, refl, sym, ◌∙◌, ap}
+use Rattle.std.proofs.Common.{◌≡◌, ℕ, zero, suc, ◌+◌, ◌-◌, ◌*◌, ◌/◌, ◌%◌, ◌<◌, Bool, true, false, cond, List, refl, sym, ◌∙◌, ap}
 use Rattle.std.proofs.Common.{arith, inl, inr, subst}
-use Rattle.std.specs.Prelude.{⊤, Option, Some, None, ◌==◌, ◌&&◌, nat_le, if◌then◌else◌}
+use Rattle.std.specs.Prelude.{Option, Some, None, ◌&&◌, nat_le, if◌then◌else◌}
 use Rattle.std.specs.Option.{option_map_or}
 use Rattle.std.proofs.lemmas.Bool.{cases_lt}
 use Rattle.std.proofs.lemmas.Bool.Decides.{nat_tests}
@@ -15,16 +15,15 @@ use Rattle.event_log.specs.Nexts.{concerns, concerns_by, next_of, told_by}
 use Rattle.event_log.specs.declared.next.Next.TheVariants.{Ends}
 use Rattle.event_log.proofs.Logs.{first-push, or_event}
 use Rattle.cyc_machine.specs.Cycle.{cycle, event_in}
-use Rattle.cyc_machine.specs.EventsLaw.{EventLaw, IsEventOf}
 use Rattle.cyc_machine.specs.Run.{events_after, state_after, with_one}
 use Rattle.cyc_machine.specs.Sizes.{IsSteady}
 use Rattle.cyc_machine.specs.State.{State}
 use Rattle.cyc_machine.proofs.Events.{event-law}
 use Rattle.cyc_machine.proofs.RunsOn.{numbered, shape-kept}
 use Rattle.cyc_machine.proofs.Sizes.Lasting.{steady-after}
-use Rattle.clean_lines.specs.CleanCycle.{DataCycle, DataCycleBy, SameCycle, told_in}
+use Rattle.clean_lines.specs.CleanCycle.{DataCycleBy, SameCycle, told_in}
 use Rattle.clean_lines.specs.CleanRun.{DataRun, DataRunBy, IsInStep, IsSettled, SameCycles}
-use Rattle.clean_lines.specs.Struck.{IsCleanSlot, IsDirtySlot, data_struck}
+use Rattle.clean_lines.specs.Struck.{IsCleanSlot, data_struck}
 use Rattle.clean_lines.proofs.DataCycles.{data-cycle}
 
 pub same-self : (s : State) → SameCycle s s
@@ -120,7 +119,7 @@ module _ (s : State) (k : ℕ) where
         let at : e.cycle ≡ s.cycle + n = number n e h in
         let from : nat_le s.cycle e.cycle ≡ true = grind (arith, nat_tests) in
         rw from (go (concerns s.cache.shape l byte e) refl
-            (subst (λ o. DataCycleBy (state_after n s) k (told_in s.cache.shape l byte o)) h (one-cycle n run.1)))
+        (subst (λ o. DataCycleBy (state_after n s) k (told_in s.cache.shape l byte o)) h (one-cycle n run.1)))
       where
         go : (b : Bool) → concerns s.cache.shape l byte e ≡ b
             → DataCycleBy (state_after n s) k (if b then told_by e.kind (holds_byte byte e) e.cycle else Ends)

@@ -1,11 +1,11 @@
 -- One element changed, beside the changes that a write and a refill make.
 use Rattle.std.proofs.Common.{◌≡◌, ◌≢◌, ◌⊎◌, inl, inr, ℕ, zero, suc, ◌+◌, ◌-◌, ◌<◌, ◌≤◌, Bool, true, false, cond, List, ◌++◌, length, take, drop}
 use Rattle.std.proofs.Common.{refl, sym, ◌∙◌, ap, arith}
-use Rattle.std.proofs.Math.ListN.{set, length-set}
+use Rattle.std.proofs.Math.ListN.{set}
 use Rattle.std.proofs.Math.Seq.{take-set-lt}
 use Rattle.std.proofs.lemmas.List.{drop-set-add, drop-set-lt, length-append, length-take-le, set-append_left, set-append_right, set-set, set_comm, take-set-le}
 use Rattle.std.specs.List.{replace_range}
-use Rattle.std.specs.Prelude.{slice_range}
+use Rattle.std.specs.Prelude.{◌&&◌, slice_range}
 use Rattle.bit_field.specs.Lanes.{has_lane, lane_byte}
 use Rattle.wb_cache.specs.Access.{put_lane, put_word}
 
@@ -37,7 +37,7 @@ put_word-off place mask value bytes j v off =
     let put1 = put_lane place mask value 1 put0 in
     let put2 = put_lane place mask value 2 put1 in
     ap (λ (xs : List ℕ). put_lane place mask value 3 (put_lane place mask value 2 (put_lane place mask value 1 xs)))
-        (put_lane-off place mask value 0 bytes j v (off 0 (omega arith)))
+    (put_lane-off place mask value 0 bytes j v (off 0 (omega arith)))
     ∙ ap (λ (xs : List ℕ). put_lane place mask value 3 (put_lane place mask value 2 xs)) (put_lane-off place mask value 1 put0 j v (off 1 (omega arith)))
     ∙ ap (λ (xs : List ℕ). put_lane place mask value 3 xs) (put_lane-off place mask value 2 put1 j v (off 2 (omega arith)))
     ∙ put_lane-off place mask value 3 put2 j v (off 3 (omega arith))
@@ -48,26 +48,26 @@ pub put_word-on : (place mask value lane : ℕ) (bytes : List ℕ) (v : ℕ) →
 unfolding put_word
 put_word-on place mask value zero bytes v l on =
     ap (λ (xs : List ℕ). put_lane place mask value 3 (put_lane place mask value 2 (put_lane place mask value 1 xs)))
-        (put_lane-on place mask value 0 bytes v on)
+    (put_lane-on place mask value 0 bytes v on)
 put_word-on place mask value (suc zero) bytes v l on =
     ap (λ (xs : List ℕ). put_lane place mask value 3 (put_lane place mask value 2 (put_lane place mask value 1 xs)))
-        (put_lane-off place mask value 0 bytes (place + 1) v (λ h. omega arith))
+    (put_lane-off place mask value 0 bytes (place + 1) v (λ h. omega arith))
     ∙ ap (λ (xs : List ℕ). put_lane place mask value 3 (put_lane place mask value 2 xs))
-        (put_lane-on place mask value 1 (put_lane place mask value 0 bytes) v on)
+    (put_lane-on place mask value 1 (put_lane place mask value 0 bytes) v on)
 put_word-on place mask value (suc (suc zero)) bytes v l on =
     let put0 = put_lane place mask value 0 bytes in
     ap (λ (xs : List ℕ). put_lane place mask value 3 (put_lane place mask value 2 (put_lane place mask value 1 xs)))
-        (put_lane-off place mask value 0 bytes (place + 2) v (λ h. omega arith))
+    (put_lane-off place mask value 0 bytes (place + 2) v (λ h. omega arith))
     ∙ ap (λ (xs : List ℕ). put_lane place mask value 3 (put_lane place mask value 2 xs))
-        (put_lane-off place mask value 1 put0 (place + 2) v (λ h. omega arith))
+    (put_lane-off place mask value 1 put0 (place + 2) v (λ h. omega arith))
     ∙ ap (λ (xs : List ℕ). put_lane place mask value 3 xs) (put_lane-on place mask value 2 (put_lane place mask value 1 put0) v on)
 put_word-on place mask value (suc (suc (suc zero))) bytes v l on =
     let put0 = put_lane place mask value 0 bytes in
     let put1 = put_lane place mask value 1 put0 in
     ap (λ (xs : List ℕ). put_lane place mask value 3 (put_lane place mask value 2 (put_lane place mask value 1 xs)))
-        (put_lane-off place mask value 0 bytes (place + 3) v (λ h. omega arith))
+    (put_lane-off place mask value 0 bytes (place + 3) v (λ h. omega arith))
     ∙ ap (λ (xs : List ℕ). put_lane place mask value 3 (put_lane place mask value 2 xs))
-        (put_lane-off place mask value 1 put0 (place + 3) v (λ h. omega arith))
+    (put_lane-off place mask value 1 put0 (place + 3) v (λ h. omega arith))
     ∙ ap (λ (xs : List ℕ). put_lane place mask value 3 xs) (put_lane-off place mask value 2 put1 (place + 3) v (λ h. omega arith))
     ∙ put_lane-on place mask value 3 (put_lane place mask value 2 put1) v on
 put_word-on place mask value (suc (suc (suc (suc n)))) bytes v l on = absurd (omega arith)
@@ -84,6 +84,7 @@ range-off xs a b j v (inr h) = go (cases a j)
   where
     cases : (m n : ℕ) → (m ≤ n) ⊎ (n < m)
     cases m n = grind arith
+
     go : (a ≤ j) ⊎ (j < a) → slice_range (set xs j v) a b ≡ slice_range xs a b
     go (inl m) = ap (take (b - a)) (drop-behind xs a j v m) ∙ take-set-le (b - a) (drop a xs) (j - a) v (omega arith)
     go (inr m) = ap (take (b - a)) (drop-set-lt a xs j v m)
@@ -110,3 +111,8 @@ pub replace-on : (xs ys : List ℕ) (a b j v : ℕ) → a ≤ j → j < b → re
 replace-on xs ys a b j v h l =
     ap (λ (zs : List ℕ). (zs ++ ys) ++ drop b (set xs j v)) (take-set-le a xs j v h)
     ∙ ap (λ (zs : List ℕ). (take a xs ++ ys) ++ zs) (drop-set-lt b xs j v l)
+
+-- a slot that is not dirty is not written back
+pub not_back : (v b : Bool) (xs ys : List ℕ) → b ≡ false → cond (v && b) xs ys ≡ ys
+not_back true b xs ys e = rw e refl
+not_back false b xs ys e = refl

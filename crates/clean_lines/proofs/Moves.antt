@@ -1,14 +1,12 @@
 -- Two caches that agree on the line that is asked for make the port move alike.
-use Rattle.std.proofs.Common.{◌≡◌, ℕ, ◌/◌, Bool, true, false, refl, sym, ◌∙◌, ap}
+use Rattle.std.proofs.Common.{◌≡◌, ℕ, ◌/◌, Bool, true, false, refl, ◌∙◌, ap}
 use Rattle.std.specs.Prelude.{⊤, Option, Some, None, ◌==◌, nat_lt, if◌then◌else◌}
-use Rattle.std.specs.Option.{option_map}
 use Rattle.store_buf.specs.Entry.{Entry}
 use Rattle.wb_cache.specs.Access.{found}
 use Rattle.wb_cache.specs.Contents.{Contents}
 use Rattle.wb_cache.specs.Refill.{way_for}
 use Rattle.cyc_machine.specs.Memory.{continues, drained_by, filled_by, is_dirty_victim, missed, move_of, owned_word, read_by, starts}
 use Rattle.cyc_machine.specs.PortState.{PortState}
-use Rattle.cyc_machine.specs.declared.port.Move.{Move}
 use Rattle.cyc_machine.specs.declared.port.Move.TheVariants.{Fills, Waits}
 
 -- the line that decides what the port does: that of the client that it serves, and that of a busy port's client once it has waited

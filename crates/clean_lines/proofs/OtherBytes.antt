@@ -1,10 +1,10 @@
 -- A cache with other bytes: what is looked up, which way makes place, and the move are the same.
-use Rattle.std.proofs.Common.{◌≡◌, ℕ, ◌/◌, Bool, true, false, cond, List, refl, sym, ◌∙◌, ap}
-use Rattle.std.specs.Prelude.{Option, Some, None, ◌==◌, ◌&&◌, nat_lt, not}
+use Rattle.std.proofs.Common.{◌≡◌, ℕ, Bool, true, false, cond, List, refl, ◌∙◌, ap}
+use Rattle.std.specs.Prelude.{Option, Some, None, ◌&&◌, nat_lt, not}
 use Rattle.store_buf.specs.Entry.{Entry}
 use Rattle.wb_cache.specs.Access.{found}
 use Rattle.wb_cache.specs.Contents.{Contents, no_slot, slot_at, slot_of, slots}
-use Rattle.wb_cache.specs.Lookup.{holds, set_of, way_of}
+use Rattle.wb_cache.specs.Lookup.{set_of, way_of}
 use Rattle.wb_cache.specs.Refill.{way_for}
 use Rattle.wb_cache.specs.Replacement.{first_invalid, replaced, victim, way_or}
 use Rattle.wb_cache.proofs.Find.{first_below-same}
@@ -49,7 +49,7 @@ module _ (c : Contents) (bs : List ℕ) where
   unfolding victim first_invalid
   way_for-other line =
       ap (λ (o : Option ℕ). way_or o (replaced c.shape c.nodes (set_of c.shape line)))
-          (first_below-same c.shape.ways _ _ (λ w l. ap not (valid-other (set_of c.shape line) w)))
+      (first_below-same c.shape.ways _ _ (λ w l. ap not (valid-other (set_of c.shape line) w)))
 
   dirty_victim-other : (line : ℕ) → is_dirty_victim d line ≡ is_dirty_victim c line
   dirty_victim-other line =

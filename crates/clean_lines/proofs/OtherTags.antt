@@ -1,11 +1,11 @@
 -- A cache with another tag in one slot: valid and dirty bits, bytes and the way that makes place are the same, and a line is found alike
 -- that neither tag names.
-use Rattle.std.proofs.Common.{◌≡◌, ◌≢◌, ◌⊎◌, inl, inr, ℕ, ◌+◌, ◌*◌, ◌/◌, ◌%◌, ◌<◌, Bool, true, false, cond, List, length, get_or, refl, sym, ◌∙◌, ap, arith}
-use Rattle.std.specs.Prelude.{Option, Some, None, ◌==◌, ◌&&◌, nat_lt, not, slice_index, slice_set}
-use Rattle.std.proofs.lemmas.Bool.{cases_eq, eqb-true}
+use Rattle.std.proofs.Common.{◌≡◌, ◌≢◌, ◌⊎◌, inl, inr, ℕ, ◌+◌, ◌*◌, ◌/◌, ◌<◌, Bool, true, false, cond, get_or, refl, sym, ◌∙◌, ap, arith}
+use Rattle.std.specs.Prelude.{Option, Some, ◌==◌, ◌&&◌, nat_lt, not, slice_set}
+use Rattle.std.proofs.lemmas.Bool.{cases_eq}
 use Rattle.std.proofs.lemmas.Bool.Decides.{nat_tests}
 use Rattle.std.proofs.lemmas.List.{get_or-set_other, get_or-set_same}
-use Rattle.bit_field.specs.Shapes.{IsShape, slots as slot_count}
+use Rattle.bit_field.specs.Shapes.{slots as slot_count}
 use Rattle.wb_cache.specs.Access.{found}
 use Rattle.wb_cache.specs.Changes.{set_at}
 use Rattle.wb_cache.specs.Contents.{Contents, IsSized, Slot, no_slot, slot_at, slot_of, slots}
@@ -54,7 +54,7 @@ module _ (c : Contents) (l tag : ℕ) (sized : IsSized c) (below : l < slot_coun
   unfolding victim first_invalid
   ways-tags line =
       ap (λ (o : Option ℕ). way_or o (replaced c.shape c.nodes (set_of c.shape line)))
-          (first_below-same c.shape.ways _ _ (λ w l. ap not (valid-tags (set_of c.shape line) w)))
+      (first_below-same c.shape.ways _ _ (λ w l. ap not (valid-tags (set_of c.shape line) w)))
 
   pub dirties-tags : (line : ℕ) → is_dirty_victim d line ≡ is_dirty_victim c line
   dirties-tags line =
@@ -96,6 +96,7 @@ module _ (c : Contents) (l tag : ℕ) (sized : IsSized c) (below : l < slot_coun
     where
       inside : set_of c.shape line < c.shape.sets
       inside = set_below c.shape line sized.shape
+
       go : (slot_of c.shape (set_of c.shape line) way ≡ l) ⊎ (slot_of c.shape (set_of c.shape line) way ≢ l)
           → holds c.shape line (slots d (set_of c.shape line) way) ≡ holds c.shape line (slots c (set_of c.shape line) way)
       go (inl e) =
@@ -119,9 +120,9 @@ module _ (c : Contents) (l tag : ℕ) (sized : IsSized c) (below : l < slot_coun
   found-here line way h e =
       let first = first_below-some c.shape.ways way (λ w. holds c.shape line (slots c (set_of c.shape line) w)) h in
       let same : (slots c (set_of c.shape line) way).tag ≡ tag_of c.shape line =
-          matched (slots c (set_of c.shape line) way).valid (slots c (set_of c.shape line) way).tag (tag_of c.shape line) first.passes in
+      matched (slots c (set_of c.shape line) way).valid (slots c (set_of c.shape line) way).tag (tag_of c.shape line) first.passes in
       named line (slot_at c l).tag (set-here line way first.below e)
-          (sym (tag-old (set_of c.shape line) way (set_below c.shape line sized.shape) first.below e) ∙ same)
+      (sym (tag-old (set_of c.shape line) way (set_below c.shape line sized.shape) first.below e) ∙ same)
     where
       matched : (v : Bool) (t u : ℕ) → (v && t == u) ≡ true → t ≡ u
       matched v t u h = grind (arith, nat_tests)

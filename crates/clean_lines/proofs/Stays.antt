@@ -1,15 +1,14 @@
 -- What a line slot that is clean holds after a cycle, by the cycle's event.
-use Rattle.std.proofs.Common.{◌≡◌, ℕ, ◌/◌, ◌<◌, Bool, true, false, refl, sym, ◌∙◌, ap, subst}
+use Rattle.std.proofs.Common.{◌≡◌, ℕ, ◌<◌, Bool, true, false, refl, subst}
 use Rattle.std.specs.Prelude.{[], Option, Some, None, ◌==◌, if◌then◌else◌}
+use Rattle.std.proofs.lemmas.Bool.{eq-eqb}
 use Rattle.bit_field.specs.Shapes.{slots as slot_count}
 use Rattle.wb_cache.specs.Changes.{set_at}
-use Rattle.wb_cache.specs.Contents.{Contents, slot_at, slot_of}
+use Rattle.wb_cache.specs.Contents.{Contents, slot_at}
 use Rattle.wb_cache.specs.Lookup.{line_of}
 use Rattle.wb_cache.specs.declared.event.CacheEvent.{CacheEvent}
-use Rattle.wb_cache.specs.declared.event.EventKind.{EventKind}
-use Rattle.wb_cache.specs.declared.event.EventKind.TheVariants.{Read, Write, Miss, Fill}
 use Rattle.cyc_machine.specs.Cycle.{cycle, event_in}
-use Rattle.cyc_machine.specs.EventsLaw.{Clean, Dirty, Held, IsHeld, held_after, held_behind, held_by}
+use Rattle.cyc_machine.specs.EventsLaw.{Clean, Dirty, Held, IsHeld, held_after, held_behind}
 use Rattle.cyc_machine.specs.Run.{events_after, state_after, with_one}
 use Rattle.cyc_machine.specs.Sizes.{IsSteady}
 use Rattle.cyc_machine.specs.State.{State}
@@ -36,3 +35,18 @@ unfolding state_after events_after
 held-cycle s l is below clean =
     subst (λ (h : Held). IsHeld (cycle s).cache l h) (held-one s l (Clean (line_at s.cache l)) (event_in s))
     (held-on 1 s l (Clean (line_at s.cache l)) is below (clean.valid, clean.clean, refl))
+
+-- a slot that holds a line, by what is held
+pub clean-held : (c : Contents) (l line : ℕ) → IsHeld c l (Clean line) → IsCleanSlot c l
+clean-held c l line h = record { valid = h.0; clean = h.1 }
+
+pub dirty-held : (c : Contents) (l line : ℕ) → IsHeld c l (Dirty line) → IsDirtySlot c l
+dirty-held c l line h = record { valid = h.0; dirty = h.1 }
+
+pub clean-either : (c : Contents) (l line : ℕ) (b : Bool) → IsHeld c l (if b then Clean line else Clean line) → IsCleanSlot c l
+clean-either c l line true h = clean-held c l line h
+clean-either c l line false h = clean-held c l line h
+
+-- slots of different numbers
+pub other-slot : (m n : ℕ) → (m == n) ≡ false → m ≡ n → ⊥
+other-slot m n h p = let e : (m == n) ≡ true = eq-eqb m n p in cc

@@ -1,25 +1,23 @@
 -- The cycle from a state with a struck tag bit of a clean line.
-use Rattle.std.proofs.Common.{◌≡◌, ◌≢◌, ℕ, ◌+◌, ◌*◌, ◌/◌, ◌%◌, ◌^◌, ◌<◌, Bool, true, false, List, length, get_or, refl, sym, ◌∙◌, ap, arith, subst}
-use Rattle.std.specs.Prelude.{⊤, Option, Some, None, ◌==◌, ◌&&◌, bit_xor, slice_index, slice_index_or, slice_set, if◌then◌else◌}
-use Rattle.std.proofs.lemmas.Bool.{eqb-true, eq-eqb}
+use Rattle.std.proofs.Common.{◌≡◌, ◌≢◌, ℕ, ◌+◌, ◌*◌, ◌/◌, ◌%◌, ◌^◌, ◌<◌, Bool, true, false, List, refl, sym, ◌∙◌, ap, subst}
+use Rattle.std.specs.Prelude.{Option, Some, None, ◌==◌, ◌&&◌, bit_xor, slice_index, slice_index_or, slice_set, if◌then◌else◌}
+use Rattle.std.proofs.lemmas.Bool.{eqb-true}
 use Rattle.bit_field.specs.Shapes.{slots as slot_count, tag_bits}
 use Rattle.bit_field.specs.declared.shapes.Shape.{Shape}
 use Rattle.store_buf.specs.Entry.{Entry}
 use Rattle.store_buf.specs.Pending.{pending}
-use Rattle.wb_cache.specs.Access.{found}
 use Rattle.wb_cache.specs.Bits.{flip_tag}
 use Rattle.wb_cache.specs.Changes.{set_at}
-use Rattle.wb_cache.specs.Contents.{Contents, slot_at, slot_of, slots}
-use Rattle.wb_cache.specs.Lookup.{line_of, set_of, tag_of}
+use Rattle.wb_cache.specs.Contents.{Contents, slot_at, slot_of}
+use Rattle.wb_cache.specs.Lookup.{line_of, set_of}
 use Rattle.wb_cache.specs.Refill.{way_for}
 use Rattle.wb_cache.specs.declared.event.CacheEvent.{CacheEvent}
 use Rattle.wb_cache.proofs.Lines.{set_of_line, tag_of_line}
 use Rattle.wb_cache.proofs.Sizes.{slot-split, tag_slot as tag_slot_below}
-use Rattle.event_log.specs.Lookups.{is_fill}
 use Rattle.cyc_machine.specs.Busy.{WorksForMiss}
 use Rattle.cyc_machine.specs.Cycle.{action_in_m, cycle, cycled, event_by, event_in, move, served_m}
-use Rattle.cyc_machine.specs.EventsLaw.{Clean, Dirty, Held, IsHeld}
-use Rattle.cyc_machine.specs.Memory.{cache_after, load_client, memory_after, owned_word, served, store_client, word_read}
+use Rattle.cyc_machine.specs.EventsLaw.{Clean, Dirty, IsHeld}
+use Rattle.cyc_machine.specs.Memory.{cache_after, load_client, memory_after, served, store_client, word_read}
 use Rattle.cyc_machine.specs.Sizes.{IsSteady}
 use Rattle.cyc_machine.specs.State.{State}
 use Rattle.cyc_machine.specs.declared.port.Move.{Move}
@@ -32,19 +30,9 @@ use Rattle.clean_lines.proofs.BytesRead.{ReadsAlike, served-alike}
 use Rattle.clean_lines.proofs.Moves.{move-same}
 use Rattle.clean_lines.proofs.OtherCache.{cycle-other, same-other}
 use Rattle.clean_lines.proofs.OtherTags.{bytes-tags, dirties-tags, found-here, ways-tags}
-use Rattle.clean_lines.proofs.Stays.{held-cycle, held_then, line_at}
+use Rattle.clean_lines.proofs.Stays.{clean-either, clean-held, held-cycle, held_then, line_at, other-slot}
 use Rattle.clean_lines.proofs.TagMoves.{Apart, agree-asked, memory-tags, read-tag, read-tags, refilled-same, refilled-tag, refilled-tags, written-tag}
 use Rattle.clean_lines.proofs.TagMoves.{written-tags}
-
-clean-held : (c : Contents) (l line : ℕ) → IsHeld c l (Clean line) → IsCleanSlot c l
-clean-held c l line h = record { valid = h.0; clean = h.1 }
-
-clean-either : (c : Contents) (l line : ℕ) (b : Bool) → IsHeld c l (if b then Clean line else Clean line) → IsCleanSlot c l
-clean-either c l line true h = clean-held c l line h
-clean-either c l line false h = clean-held c l line h
-
-other-slot : (m n : ℕ) → (m == n) ≡ false → m ≡ n → ⊥
-other-slot m n h p = let e : (m == n) ≡ true = eq-eqb m n p in cc
 
 module _ (s : State) (k : ℕ) (is : IsSteady s) (busy : s.port.count ≢ 0 → WorksForMiss s) (below : k < slot_count s.cache.shape * tag_bits s.cache.shape)
     (clean : IsCleanSlot s.cache (tag_slot s.cache k)) (apart : IsApart s k (event_in s)) where
@@ -85,8 +73,10 @@ module _ (s : State) (k : ℕ) (is : IsSteady s) (busy : s.port.count ≢ 0 → 
   -- the line that the struck slot seems to hold
   near-is : near_line c k ≡ line_of c.shape (set_at c.shape l) tag
   unfolding slot_at
-  near-is = rw (set_of_line c.shape.sets (set_at c.shape l) (slice_index c.tags l) set-below,
-      tag_of_line c.shape.sets (set_at c.shape l) (slice_index c.tags l) set-below) refl
+  near-is = rw (
+    set_of_line c.shape.sets (set_at c.shape l) (slice_index c.tags l) set-below,
+    tag_of_line c.shape.sets (set_at c.shape l) (slice_index c.tags l) set-below,
+  ) refl
 
   apart-by : (o : Option CacheEvent) → IsApart s k o → Apart (line_of c.shape (set_at c.shape l) (slot_at c l).tag) (line_of c.shape (set_at c.shape l) tag) o
   apart-by None h = tt
@@ -96,7 +86,7 @@ module _ (s : State) (k : ℕ) (is : IsSteady s) (busy : s.port.count ≢ 0 → 
   moves =
       move-same d c (ways-tags c l tag is.cache slot-below) (dirties-tags c l tag is.cache slot-below) s.port load store
       (agree-asked c l tag is.cache slot-below (action_in_m s) s.cycle s.port load store (λ h. let b =
-          busy h in (b.word, b.client, b.missing)) (apart-by (event_in s) apart))
+      busy h in (b.word, b.client, b.missing)) (apart-by (event_in s) apart))
 
   told : Tells c load store (move s)
   told = tells s.port c load store
@@ -187,8 +177,16 @@ module _ (s : State) (k : ℕ) (is : IsSteady s) (busy : s.port.count ≢ 0 → 
 
   still : Keeps Rests × Keeps Waits × Keeps Leaves
   unfolding cache_after memory_after
-  still = (record { cache = refl; memory = refl; tag = refl }, record { cache = refl; memory = refl; tag = refl }, record { cache = refl; memory =
-      refl; tag = refl })
+  still = (
+    record { cache = refl; memory = refl; tag = refl },
+    record { cache = refl; memory = refl; tag = refl },
+    record {
+      cache = refl;
+      memory =
+          refl;
+      tag = refl;
+    },
+  )
 
   missed : (m way count : ℕ) (owner : Bool) → Keeps (Misses m way count owner)
   unfolding cache_after memory_after
@@ -243,6 +241,7 @@ module _ (s : State) (k : ℕ) (is : IsSteady s) (busy : s.port.count ≢ 0 → 
     where
       at : slot_of c.shape (set_of c.shape m) way ≡ slot_of c.shape (set_of c.shape m) (way_for c m)
       at = ap (slot_of c.shape (set_of c.shape m)) t.1
+
       go : (a : Bool) → (slot_of c.shape (set_of c.shape m) way == l) ≡ a → IsHeld (cycle s).cache l (if a then Clean m else Clean (line_at c l))
           → TagCycleBy s k (a && true)
       go true p g = ends (Fills m way) e (settles-fill m way (sym at ∙ eqb-true (slot_of c.shape (set_of c.shape m) way) l p))

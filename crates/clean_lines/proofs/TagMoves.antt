@@ -1,6 +1,5 @@
 -- The tag of a clean line slot is another one: the line that decides what the port does is found alike, and what a move makes of the cache.
-use Rattle.std.proofs.Common.{◌≡◌, ◌≢◌, ◌⊎◌, inl, inr, ℕ, ◌+◌, ◌*◌, ◌/◌, ◌%◌, ◌<◌, Bool, true, false, cond, List, length, get_or, refl, sym, ◌∙◌, ap}
-use Rattle.std.proofs.Common.{arith, subst}
+use Rattle.std.proofs.Common.{◌≡◌, ◌≢◌, ◌⊎◌, inl, inr, ℕ, ◌+◌, ◌*◌, ◌/◌, ◌<◌, Bool, true, false, cond, List, refl, sym, ◌∙◌, ap}
 use Rattle.std.specs.Prelude.{⊤, Option, Some, None, ◌==◌, ◌&&◌, nat_lt, slice_index, slice_index_or, slice_range, slice_set, if◌then◌else◌}
 use Rattle.std.proofs.lemmas.Bool.{cases_eq, eq-eqb}
 use Rattle.std.proofs.lemmas.List.{get_or-set_other, set-set, set_comm}
@@ -10,9 +9,9 @@ use Rattle.rv_table.specs.declared.action.Action.{Action}
 use Rattle.store_buf.specs.Entry.{Entry}
 use Rattle.wb_cache.specs.Access.{found, put, read, written as written_word}
 use Rattle.wb_cache.specs.Changes.{set_at}
-use Rattle.wb_cache.specs.Contents.{Contents, IsSized, slot_at, slot_of, slots}
+use Rattle.wb_cache.specs.Contents.{Contents, IsSized, slot_at, slot_of}
 use Rattle.wb_cache.specs.Lookup.{line_of, set_of, tag_of}
-use Rattle.wb_cache.specs.Refill.{filled, line_bytes, memory_refilled, put_line, refilled, way_for, written_back}
+use Rattle.wb_cache.specs.Refill.{filled, memory_refilled, put_line, refilled, way_for, written_back}
 use Rattle.wb_cache.specs.declared.event.CacheEvent.{CacheEvent}
 use Rattle.wb_cache.proofs.Hits.{read-hit, written-hit}
 use Rattle.cyc_machine.specs.Cycle.{event_by}
@@ -21,15 +20,12 @@ use Rattle.cyc_machine.specs.PortState.{PortState}
 use Rattle.cyc_machine.specs.declared.port.Move.TheVariants.{Waits}
 use Rattle.clean_lines.proofs.Moves.{Agree, line_asked, line_owned, line_started}
 use Rattle.clean_lines.proofs.OtherTags.{found-tags, ways-tags}
+use Rattle.clean_lines.proofs.Lists.{not_back}
 
 -- an event, if there is one, of neither of two lines
 abbrev pub Apart : ℕ → ℕ → Option CacheEvent → Type 0
 Apart line near None = ⊤
 Apart line near (Some e) = (e.line ≢ line) × (e.line ≢ near)
-
-not_back : (v b : Bool) (xs ys : List ℕ) → b ≡ false → cond (v && b) xs ys ≡ ys
-not_back true b xs ys e = rw e refl
-not_back false b xs ys e = refl
 
 module _ (c : Contents) (l tag : ℕ) (sized : IsSized c) (below : l < slot_count c.shape) where
   abbrev d : Contents
@@ -125,11 +121,11 @@ module _ (c : Contents) (l tag : ℕ) (sized : IsSized c) (below : l < slot_coun
         go (inl e) =
             let none : slice_index_or c.dirty (slot_of c.shape set way) false ≡ false = ap (λ i. slice_index_or c.dirty i false) e ∙ clean in
             unfold written_back in (not_back (slice_index_or c.valid (slot_of c.shape set way) false)
-                (slice_index_or c.dirty (slot_of c.shape set way) false) _ memory none
+            (slice_index_or c.dirty (slot_of c.shape set way) false) _ memory none
             ∙ sym (not_back (slice_index_or c.valid (slot_of c.shape set way) false) (slice_index_or c.dirty (slot_of c.shape set way) false) _ memory none))
         go (inr ne) =
             unfold written_back in ap (λ t. cond
-                (slice_index_or c.valid (slot_of c.shape set way) false && slice_index_or c.dirty (slot_of c.shape set way) false)
+            (slice_index_or c.valid (slot_of c.shape set way) false && slice_index_or c.dirty (slot_of c.shape set way) false)
             (put_line image (line_of c.shape set t) (slice_range c.bytes (16 * slot_of c.shape set way) (16 * slot_of c.shape set way + 16)) memory) memory)
             (get_or-set_other c.tags l (slot_of c.shape set way) tag 0 ne)
 
@@ -139,7 +135,7 @@ module _ (c : Contents) (l tag : ℕ) (sized : IsSized c) (below : l < slot_coun
 
     refilled-by : (m : ℕ) (f : List ℕ → List ℕ)
         → slice_set (slice_set c.tags l tag) (slot_of c.shape (set_of c.shape m) (way_for c m)) (tag_of c.shape m)
-            ≡ f (slice_set c.tags (slot_of c.shape (set_of c.shape m) (way_for c m)) (tag_of c.shape m))
+        ≡ f (slice_set c.tags (slot_of c.shape (set_of c.shape m) (way_for c m)) (tag_of c.shape m))
         → refilled image m memory d ≡ record (refilled image m memory c) { tags = f (refilled image m memory c).tags }
     unfolding refilled filled
     refilled-by m f e =
@@ -151,7 +147,7 @@ module _ (c : Contents) (l tag : ℕ) (sized : IsSized c) (below : l < slot_coun
         → refilled image m memory d ≡ record (refilled image m memory c) { tags = slice_set (refilled image m memory c).tags l tag }
     refilled-tags m ne =
         refilled-by m (λ ts. slice_set ts l tag)
-            (set_comm c.tags l (slot_of c.shape (set_of c.shape m) (way_for c m)) tag (tag_of c.shape m) (λ e. ne (sym e)))
+        (set_comm c.tags l (slot_of c.shape (set_of c.shape m) (way_for c m)) tag (tag_of c.shape m) (λ e. ne (sym e)))
 
     pub refilled-tag : (m : ℕ) → slot_of c.shape (set_of c.shape m) (way_for c m) ≢ l → slice_index (refilled image m memory c).tags l ≡ slice_index c.tags l
     unfolding refilled filled

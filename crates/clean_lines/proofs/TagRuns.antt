@@ -1,7 +1,7 @@
 -- Many cycles from a state with a struck tag bit of a clean line, as long as no event is of the two lines that the tag is taken for.
 use Rattle.std.proofs.Common.{◌≡◌, ◌≢◌, ◌≤◌, ℕ, zero, suc, ◌+◌, ◌*◌, ◌/◌, ◌%◌, ◌<◌, Bool, true, false, cond, List, [], ◌∷◌, ◌++◌, refl, sym, ◌∙◌, ap}
 use Rattle.std.proofs.Common.{arith, subst}
-use Rattle.std.specs.Prelude.{⊤, Option, Some, None, ◌==◌, ◌&&◌, nat_le}
+use Rattle.std.specs.Prelude.{Option, Some, None, ◌==◌, ◌&&◌, nat_le}
 use Rattle.std.specs.List.{All}
 use Rattle.std.specs.Option.{IfSome}
 use Rattle.std.proofs.lemmas.Bool.{eq-eqb}
@@ -20,8 +20,8 @@ use Rattle.cyc_machine.specs.State.{State}
 use Rattle.cyc_machine.proofs.Events.{event-law, events-law}
 use Rattle.cyc_machine.proofs.RunsOn.{numbered, shape-kept}
 use Rattle.cyc_machine.proofs.Sizes.Lasting.{steady-after}
-use Rattle.clean_lines.specs.CleanCycle.{IsApart, SameCycle, TagCycle, TagCycleBy, fills_in}
-use Rattle.clean_lines.specs.CleanRun.{IsInStep, IsSettled, SameCycles, TagRun, TagRunBy}
+use Rattle.clean_lines.specs.CleanCycle.{IsApart, SameCycle, TagCycleBy, fills_in}
+use Rattle.clean_lines.specs.CleanRun.{IsSettled, TagRunBy}
 use Rattle.clean_lines.specs.Struck.{IsCleanSlot, near_line, tag_line, tag_slot, tag_struck}
 use Rattle.clean_lines.proofs.DataRuns.{same-more, settled-more}
 use Rattle.clean_lines.proofs.TagCycles.{tag-cycle}
@@ -48,7 +48,7 @@ looked-before : (shape : Shape) (l line t : ℕ) (es : List CacheEvent) (e : Cac
 unfolding looked_up
 looked-before shape l line t es e h off =
     by-before (first_event (has_line line) t es) (first_event (fills shape l) t es) (nat_le t e.cycle && has_line line e)
-        (nat_le t e.cycle && fills shape l e) e
+    (nat_le t e.cycle && fills shape l e) e
     (first-all (λ a. a.cycle < e.cycle) (has_line line) t es h)
     (sym (ap (λ r. is_by r (or_event (first_event (fills shape l) t es) (nat_le t e.cycle && fills shape l e) e)) (first-push (has_line line) t es e))
     ∙ sym (ap (λ f. is_by (first_event (has_line line) t (es ++ e ∷ [])) f) (first-push (fills shape l) t es e)) ∙ off)
@@ -63,9 +63,9 @@ unfolding looked_up
 looked-now shape l line t es e from none before off =
     off-line line (nat_le t e.cycle) e (grind (arith, nat_tests))
     (by-now (first_event (has_line line) t es) (nat_le t e.cycle && has_line line e) (nat_le t e.cycle && fills shape l e) e
-        (ap (λ f. is_by (first_event (has_line line) t es) f) (sym none) ∙ before)
+    (ap (λ f. is_by (first_event (has_line line) t es) f) (sym none) ∙ before)
     (ap (λ f. is_by (or_event (first_event (has_line line) t es) (nat_le t e.cycle && has_line line e) e)
-        (or_event f (nat_le t e.cycle && fills shape l e) e)) (sym none)
+    (or_event f (nat_le t e.cycle && fills shape l e) e)) (sym none)
     ∙ sym (ap (λ r. is_by r (or_event (first_event (fills shape l) t es) (nat_le t e.cycle && fills shape l e) e)) (first-push (has_line line) t es e))
     ∙ sym (ap (λ f. is_by (first_event (has_line line) t (es ++ e ∷ [])) f) (first-push (fills shape l) t es e)) ∙ off))
 
@@ -105,13 +105,14 @@ module _ (s : State) (k : ℕ) (is : IsSteady s) (busy : (n : ℕ) → (state_af
   -- one cycle more
   on : (n : ℕ) → TagRunBy n s k None → TagCycleBy (at n) k false → TagRunBy (suc n) s k None
   unfolding state_after
-  on n run one =
-      (record {
-        same = same-more n s (tag_struck k s) run.0.same (subst (λ (v : State). SameCycle (at n) v) (sym run.0.state) one.0);
-        state = ap cycle run.0.state ∙ one.1;
-      },
-      subst (λ (sh : Shape). IsCleanSlot (cycle (at n)).cache (k / tag_bits sh)) (shape-kept n s) one.2,
-      one.3 ∙ run.2)
+  on n run one = (
+    record {
+      same = same-more n s (tag_struck k s) run.0.same (subst (λ (v : State). SameCycle (at n) v) (sym run.0.state) one.0);
+      state = ap cycle run.0.state ∙ one.1;
+    },
+    subst (λ (sh : Shape). IsCleanSlot (cycle (at n)).cache (k / tag_bits sh)) (shape-kept n s) one.2,
+    one.3 ∙ run.2,
+  )
 
   off : (n : ℕ) → TagRunBy n s k None → TagCycleBy (at n) k true → IsSettled (suc n) s (tag_struck k s)
   unfolding state_after

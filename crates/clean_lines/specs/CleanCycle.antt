@@ -1,6 +1,5 @@
 -- One cycle with a struck bit of a clean line, beside the same cycle without the strike.
-use Rattle.std.specs.Prelude.{◌≡◌, ◌≢◌, ⊤, ℕ, Bool, true, false, ◌/◌, ◌%◌, ◌<◌, Option, Some, None, if◌then◌else◌}
-use Rattle.bit_field.specs.Shapes.{slots}
+use Rattle.std.specs.Prelude.{◌≡◌, ◌≢◌, ⊤, ℕ, Bool, true, false, ◌/◌, ◌%◌, Option, Some, None, if◌then◌else◌}
 use Rattle.bit_field.specs.declared.shapes.Shape.{Shape}
 use Rattle.wb_cache.specs.declared.event.CacheEvent.{CacheEvent}
 use Rattle.event_log.specs.Events.{holds_byte}

@@ -1,5 +1,5 @@
 -- Many cycles with a struck bit of a clean line, beside the same cycles without the strike, by the events of the cache.
-use Rattle.std.specs.Prelude.{◌≡◌, ℕ, suc, Option, Some, None, ◌+◌, ◌-◌, ◌/◌, ◌%◌, ◌<◌}
+use Rattle.std.specs.Prelude.{◌≡◌, ℕ, suc, Option, Some, None, ◌-◌, ◌/◌, ◌%◌, ◌<◌}
 use Rattle.wb_cache.specs.declared.event.CacheEvent.{CacheEvent}
 use Rattle.event_log.specs.Events.{first_event}
 use Rattle.event_log.specs.Lookups.{fills}

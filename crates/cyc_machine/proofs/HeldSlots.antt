@@ -28,7 +28,7 @@ use Rattle.cyc_machine.specs.Run.{events_after, events_below, state_after, state
 use Rattle.cyc_machine.specs.Sizes.{IsSteady}
 use Rattle.cyc_machine.specs.State.{State, reset}
 use Rattle.cyc_machine.proofs.Events.{event-law}
-use Rattle.cyc_machine.proofs.RunsOn.{shape-kept, shape-next}
+use Rattle.cyc_machine.proofs.RunsOn.{reset-shape, shape-kept, shape-next}
 use Rattle.cyc_machine.proofs.Sizes.Lasting.{steady-after, steady-next, steady-reset}
 
 -- ---- one slot
@@ -168,15 +168,11 @@ vacant-reset : (image : LoadedImage) (shape : Shape) (l : ℕ) → l < slot_coun
 unfolding reset slot_at empty
 vacant-reset image shape l below = get_or-replicate (slot_count shape) l false false below
 
-shape-reset : (image : LoadedImage) (shape : Shape) → (reset image shape).cache.shape ≡ shape
-unfolding reset empty
-shape-reset image shape = refl
-
 pub held-law : HeldLaw
 held-law = record {
   runs = held-on;
   reset = λ image shape t l is fits below.
-      let same : (reset image shape).cache.shape ≡ shape = shape-reset image shape in
+      let same : (reset image shape).cache.shape ≡ shape = reset-shape image shape in
       subst (λ (sh : Shape). IsHeld (state_at image shape t).cache l (held_behind sh l Vacant (events_below image shape t))) same
       (held-on t (reset image shape) l Vacant (steady-reset image shape is fits) (subst (λ (sh : Shape). l < slot_count sh) (sym same) below)
       (vacant-reset image shape l below));

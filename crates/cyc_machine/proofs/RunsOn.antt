@@ -1,14 +1,20 @@
 -- Runs from any state go on from where they stand.
-use Rattle.std.proofs.Common.{◌≡◌, ◌≤◌, ◌<◌, ◌+◌, ◌-◌, ℕ, zero, suc, Bool, true, false, List, [], ◌∷◌, ◌++◌, arith, refl, ap, sym, ◌∙◌, append_assoc}
+use Rattle.std.proofs.Common.{subst, ◌≡◌, ◌≤◌, ◌<◌, ◌+◌, ◌-◌, ℕ, zero, suc, Bool, true, false, List, [], ◌∷◌, ◌++◌, arith, refl, ap, sym, ◌∙◌, append_assoc}
 use Rattle.std.proofs.Common.{append-nil, inl, inr}
 use Rattle.std.specs.Prelude.{◌⊎◌, Option, Some, None, if◌then◌else◌}
 use Rattle.avf_base.specs.declared.end.End.{End}
+use Rattle.bit_field.specs.Shapes.{IsPlaceIn}
+use Rattle.bit_field.specs.declared.places.Place.{Place}
+use Rattle.bit_field.specs.declared.shapes.Shape.{Shape}
+use Rattle.elf_load.specs.Image.{LoadedImage}
 use Rattle.rv_isa.specs.Instruction.{Log, logged}
+use Rattle.wb_cache.specs.Contents.{empty}
 use Rattle.cyc_machine.specs.Cycle.{cycle, cycled, done_in, end_in, event_in, move, put_in, retires}
 use Rattle.cyc_machine.specs.Run.{EndsIn, RunsFor, clocks_after, cycle_if, events_after, issues, issues_after, issues_clock, log_after, output_after}
-use Rattle.cyc_machine.specs.Run.{retired_after, state_after, with_one}
+use Rattle.cyc_machine.specs.Run.{retired_after, state_after, state_at, with_one}
 use Rattle.cyc_machine.specs.RunsLaw.{RunsLaw}
-use Rattle.cyc_machine.specs.State.{State}
+use Rattle.cyc_machine.specs.State.{State, reset}
+use Rattle.cyc_machine.specs.Strikes.{InRange}
 use Rattle.cyc_machine.proofs.ShapeKept.{shape-moved}
 
 pub state-on : (j k n : ℕ) (s : State) → n ≡ j + k → state_after j (state_after k s) ≡ state_after n s
@@ -128,11 +134,32 @@ ended-on j k s end is = record {
   ends = ap end_in (state-on j k (j + k) s refl) ∙ is.ends;
 }
 
+-- ---- the run from reset
+
+reset-cycle : (image : LoadedImage) (shape : Shape) → (reset image shape).cycle ≡ 0
+unfolding reset
+reset-cycle image shape = refl
+
+reset-image : (image : LoadedImage) (shape : Shape) → (reset image shape).image ≡ image
+unfolding reset
+reset-image image shape = refl
+
+pub reset-shape : (image : LoadedImage) (shape : Shape) → (reset image shape).cache.shape ≡ shape
+unfolding reset empty
+reset-shape image shape = refl
+
+pub cycle-at : (image : LoadedImage) (shape : Shape) (t : ℕ) → (state_at image shape t).cycle ≡ t
+cycle-at image shape t = let e = numbered t (reset image shape) in let z = reset-cycle image shape in omega (arith, e, z)
+
+pub place-kept : (n : ℕ) (s : State) (p : Place) → InRange s p → InRange (state_after n s) p
+place-kept n s p h = subst (λ (shape : Shape). IsPlaceIn shape p) (sym (shape-kept n s)) h
+
 pub runs-law : RunsLaw
 runs-law = record {
   numbered = numbered;
   image = image-kept;
   shape = shape-kept;
+  place = place-kept;
   state = λ j k s. state-on j k (j + k) s refl;
   output = output-on;
   events = events-on;
@@ -142,4 +169,7 @@ runs-law = record {
   log = log-on;
   ends = ends-on;
   ended = ended-on;
+  cycle_at = cycle-at;
+  image_at = λ image shape t. image-kept t (reset image shape) ∙ reset-image image shape;
+  shape_at = λ image shape t. shape-kept t (reset image shape) ∙ reset-shape image shape;
 }

@@ -1,4 +1,4 @@
-// What holds of every machine.
+// What holds of every machine, and the laws of its cycles, runs and strikes, as contracts of calls that do nothing.
 
 ghost use Rattle.std.specs.Prelude.{ℕ};
 ghost use Rattle.cyc_machine.specs.Cycle.{cycle};

@@ -5,7 +5,7 @@ ghost use Rattle.std.specs.Prelude.{◌≡◌, ◌<◌};
 
 use super::*;
 use avf_base::{End, Steps, counter};
-use bit_field::{Place, Structure};
+use bit_field::{PORT_BITS, Place, Structure};
 use elf_fixture::THREE;
 use elf_load::{Image, load};
 use std::alloc::Global;
@@ -119,4 +119,16 @@ fn flips_at_the_corners(rt: HostRuntime) -> Result<(), Fail> {
         check_place(&rt, &mut machine, structure, bits);
     }
     Ok(())
+}
+
+#[test]
+fn the_port_is_a_row_of_fields(rt: HostRuntime) {
+    for (field, first, last) in [(PortField::Count, 0, 4), (PortField::Owner, 5, 5)] {
+        assert!(rt; first <= last && last < PORT_BITS);
+        assert!(rt; PortLatch::field_at(first) == (field, 0), "bit {first}");
+        assert!(rt;
+            PortLatch::field_at(last) == (field, last - first),
+            "bit {last}"
+        );
+    }
 }

@@ -1,3 +1,4 @@
+pub mod CodeSizes
 pub mod HeaderFields
 pub mod Segments
 pub mod Accepting

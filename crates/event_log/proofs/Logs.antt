@@ -112,8 +112,8 @@ first-either p q t [] h = refl
 first-either p q t (e ∷ es) h =
     let later = pairs-head (λ (d e : CacheEvent). d.cycle < e.cycle) e es h in
     either-more e (first_event p t es) (first_event q t es) (first_event (λ e. p e || q e) t es) (nat_le t e.cycle) (p e) (q e)
-        (first-all (λ d. e.cycle < d.cycle) p t es later) (first-all (λ d. e.cycle < d.cycle) q t es later)
-            (first-either p q t es (pairs-tail (λ d e. d.cycle < e.cycle) e es h))
+    (first-all (λ d. e.cycle < d.cycle) p t es later) (first-all (λ d. e.cycle < d.cycle) q t es later)
+    (first-either p q t es (pairs-tail (λ d e. d.cycle < e.cycle) e es h))
 
 -- one element more, where it passes the test
 shown-last : {X Y : Type 0} (g : X → Y) (x : X) (ys : List X) (b : Bool) → map g (ys ++ cond b (x ∷ []) []) ≡ cond b (map g ys ++ g x ∷ []) (map g ys)
@@ -158,4 +158,4 @@ unfolding first_event
 first-push test t [] e = refl
 first-push test t (a ∷ es) e =
     push-more a (first_event test t (es ++ e ∷ [])) (first_event test t es) (nat_le t a.cycle && test a) (nat_le t e.cycle && test e) e
-        (first-push test t es e)
+    (first-push test t es e)

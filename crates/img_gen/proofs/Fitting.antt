@@ -1,5 +1,5 @@
 -- Each instruction of a generated program is well-formed.
-use Rattle.std.proofs.Common.{◌≡◌, ℕ, ◌+◌, ◌-◌, ◌*◌, ◌/◌, ◌%◌, ◌^◌, ◌<◌, Bool, ◌||◌, ◌≤◌, ◌&&◌, true, false, cond, ◌∙◌, zero, suc, refl, ap, arith}
+use Rattle.std.proofs.Common.{◌≡◌, ℕ, ◌+◌, ◌-◌, ◌*◌, ◌/◌, ◌%◌, ◌^◌, ◌<◌, Bool, ◌||◌, ◌≤◌, true, false, cond, ◌∙◌, zero, suc, refl, ap, arith}
 use Rattle.std.specs.Prelude.{◌==◌, IsTrue, nat_lt, if◌then◌else◌}
 use Rattle.std.specs.List.{All}
 use Rattle.std.proofs.lemmas.Bool.{and_from}
@@ -10,7 +10,7 @@ use Rattle.rv_table.specs.WellFormed.{fits, well_formed}
 use Rattle.rv_table.specs.declared.form.Form.{Form}
 use Rattle.rv_table.specs.declared.form.Form.TheVariants.{J, I, S, R}
 use Rattle.rv_table.specs.declared.op.Op.{Op}
-use Rattle.img_gen.specs.declared.codes.TheConstants.{JAL, LW, LBU, SB, SW, ADDI, XORI, ADD, SUB, SLL, SLT, XOR, SRL, OR, AND, MUL, DIVU}
+use Rattle.rv_table.specs.declared.codes.TheConstants.{JAL, LW, LBU, SB, SW, ADDI, XORI, ADD, SUB, SLL, SLT, XOR, SRL, OR, AND, MUL, DIVU}
 use Rattle.img_gen.specs.declared.program.TheConstants.{ZERO, S0}
 use Rattle.img_gen.specs.Program.{registers, immediate, two_registers, register_at, by_kind, body_op, start, finish, back}
 

@@ -8,13 +8,8 @@ use Rattle.rand_pcg.specs.Lcg.{Lcg}
 use Rattle.rand_pcg.specs.Pcg.{pcg32, pcg32_of_seed}
 use Rattle.rv_table.specs.declared.op.Op.{Op}
 use Rattle.elf_write.specs.Code.{op_bytes}
+use Rattle.elf_write.proofs.CodeSizes.{length-code}
 use Rattle.img_gen.specs.Program.{body_op, finish, program, random_words}
-
--- four bytes for each instruction
-pub length-code : (ops : List Op) → length (flat_map op_bytes ops) ≡ 4 * length ops
-unfolding op_bytes
-length-code [] = refl
-length-code (op ∷ ops) = let rest = length-code ops in let all = length-append (op_bytes op) (flat_map op_bytes ops) in omega (arith, rest, all)
 
 pub length-words : (count : ℕ) (g : Lcg) → length (first_words pcg32 count g) ≡ count
 unfolding first_words

@@ -10,7 +10,7 @@ use Rattle.elf_write.specs.File.{file}
 use Rattle.elf_write.specs.declared.layout.TheConstants.{TEXT_BASE, DATA_BASE}
 use Rattle.rv_table.specs.Words.{sign_extended}
 use Rattle.rv_table.specs.declared.op.Op.{Op}
-use Rattle.img_gen.specs.declared.codes.TheConstants.{LUI, JAL, BEQ, LW, LBU, SB, SW, ADDI, XORI, ADD, SUB, SLL, SLT, XOR, SRL, OR, AND, MUL, DIVU, ECALL}
+use Rattle.rv_table.specs.declared.codes.TheConstants.{LUI, JAL, BEQ, LW, LBU, SB, SW, ADDI, XORI, ADD, SUB, SLL, SLT, XOR, SRL, OR, AND, MUL, DIVU, ECALL}
 use Rattle.img_gen.specs.declared.program.TheConstants.{ZERO, S0, S1, A0, A7, ROUNDS, PUT, EXIT}
 use Rattle.img_gen.specs.declared.generator.TheConstants.{MAX_SIZE}
 

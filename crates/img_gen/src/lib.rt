@@ -3,7 +3,6 @@
 //! `program` has the instructions of a generated program, and `generate` writes its file.
 #![tactic(auto)]
 
-mod codes;
 mod error;
 mod generator;
 mod program;

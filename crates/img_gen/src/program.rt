@@ -4,10 +4,9 @@ ghost use Rattle.img_gen.specs.Program as spec;
 ghost use Rattle.rv_table.specs.Words.{sign_extended};
 ghost use Rattle.rv_table.specs.WellFormed.{well_formed};
 
-use crate::codes;
 use crate::generator::MAX_SIZE;
 use elf_write::DATA_BASE;
-use rv_table::Op;
+use rv_table::{Op, codes};
 
 /// The registers that a generated program uses besides x10 to x17, which its body computes with.
 pub const ZERO: u8 = 0;

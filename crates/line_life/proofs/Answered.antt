@@ -33,7 +33,7 @@ first-concern : (shape : Shape) (l byte t : ℕ) (es : List CacheEvent) → AllP
     ≡ earlier (first_event (λ e. is_of_slot shape l e && reads_byte byte e) t es) (first_event (changes_at shape l) t es)
 first-concern shape l byte t es h =
     ap (λ p. first_event p t es) (fun_ext (λ (e : CacheEvent). concerns-either (is_of_slot shape l e) (holds_byte byte e) e.kind))
-        ∙ first-either (λ e. is_of_slot shape l e && reads_byte byte e) (changes_at shape l) t es h
+    ∙ first-either (λ e. is_of_slot shape l e && reads_byte byte e) (changes_at shape l) t es h
 
 -- an event that reads a byte
 told-read : (kind : EventKind) (a held : Bool) (cycle : ℕ) → (a && (is_read kind && held)) ≡ true → told_by kind held cycle ≡ told_by Read held cycle
@@ -84,14 +84,14 @@ module _ (shape : Shape) (events : List CacheEvent) (ends : ℕ) (reads : List (
       let of : (16 * l + byte) % 16 ≡ byte = omega arith in
       let k : 16 * l + byte < 16 * slots shape = omega arith in
       let rs : cycles.first_from t (get_or reads (16 * l + byte) [])
-          ≡ option_map (λ e. e.cycle) (first_event (λ e. is_of_slot shape l e && reads_byte byte e) t events) = ap (cycles.first_from t)
-          (read-all (16 * l + byte) k) ∙ first-cycles (reads_at shape (16 * l + byte)) t events ∙ rw (at, of) refl in
+      ≡ option_map (λ e. e.cycle) (first_event (λ e. is_of_slot shape l e && reads_byte byte e) t events) = ap (cycles.first_from t)
+      (read-all (16 * l + byte) k) ∙ first-cycles (reads_at shape (16 * l + byte)) t events ∙ rw (at, of) refl in
       let cs : first_change t (get_or changes l [])
-          ≡ option_map change_of (first_event (changes_at shape l) t events) = ap (first_change t) (change-all l h)
-          ∙ first-change (changes_at shape l) t events in
+      ≡ option_map change_of (first_event (changes_at shape l) t events) = ap (first_change t) (change-all l h)
+      ∙ first-change (changes_at shape l) t events in
       rw (rs, cs, first-concern shape l byte t events log.rising)
-          (sooner-is shape l byte (first_event (λ e. is_of_slot shape l e && reads_byte byte e) t events) (first_event (changes_at shape l) t events)
-          (first-passes (λ e. is_of_slot shape l e && reads_byte byte e) t events))
+      (sooner-is shape l byte (first_event (λ e. is_of_slot shape l e && reads_byte byte e) t events) (first_event (changes_at shape l) t events)
+      (first-passes (λ e. is_of_slot shape l e && reads_byte byte e) t events))
 
   pub lives-all : IsLives life
   lives-all = record {

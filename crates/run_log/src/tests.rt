@@ -8,6 +8,7 @@ use bit_field::plain_shape;
 use cyc_machine::Machine;
 use elf_load::{Image, load};
 use flush_view::{cycle_laws, flush_laws, run_law, step_flush, struck_laws, view_byte};
+use run_record::verdict_law;
 use std::alloc::Global;
 use std::fs::Files;
 use std::marker::Brand;
@@ -86,6 +87,7 @@ fn check_clock<L: Ledger>(
 fn check_laws<L: Ledger>(rt: &impl Abort, alloc: Global, steps: &mut Steps<L>) -> Result<(), Fail> {
     let image = flat(alloc, &CLOCK)?;
     run_law(&image, &plain_shape());
+    verdict_law();
     cycle_laws();
     flush_laws();
     struck_laws();

@@ -23,8 +23,8 @@ comes-is (Some e) (Some d) = refl
 module _ (events : List CacheEvent) (entries : List Retired) (shape : Shape) (last : List (ℕ × ℕ)) (asked : List (ℕ × List ℕ)) (filled : List (List ℕ))
     (is : IsShape shape) (log : IsEventLog shape events)
     (places : length filled ≡ slots shape) (lines : (line : ℕ) → asked_in asked line ≡ cycles_of (has_line line) events)
-        (lists : (l : ℕ) → l < slots shape → get_or filled l [] ≡ cycles_of (fills shape l) events)
-        (accessed : (line : ℕ) → last_in last line ≡ last_access line entries) where
+    (lists : (l : ℕ) → l < slots shape → get_or filled l [] ≡ cycles_of (fills shape l) events)
+    (accessed : (line : ℕ) → last_in last line ≡ last_access line entries) where
   abbrev table : Tables
   table = record { shape = shape; last = last; asked = asked; filled = filled }
 
@@ -32,9 +32,9 @@ module _ (events : List CacheEvent) (entries : List Retired) (shape : Shape) (la
   unfolding looked_up_in looked_up
   looked-all l line t h =
       let a : first_from t (asked_in asked line) ≡ option_map (λ e. e.cycle) (first_event (has_line line) t events) = ap (first_from t) (lines line)
-          ∙ first-cycles (has_line line) t events in
+      ∙ first-cycles (has_line line) t events in
       let f : first_from t (get_or filled l []) ≡ option_map (λ e. e.cycle) (first_event (fills shape l) t events) = ap (first_from t) (lists l h)
-          ∙ first-cycles (fills shape l) t events in
+      ∙ first-cycles (fills shape l) t events in
       rw (a, f) (comes-is (first_event (has_line line) t events) (first_event (fills shape l) t events))
 
   pub tables-all : IsTables table

@@ -1,4 +1,6 @@
 // Hand-made runs: what the cache looks up while a line stands in way 0 of set 0.
+ghost use Rattle.std.specs.Prelude.{◌≡◌, ◌<◌};
+
 use crate::{TagTable, distance_one, tag_table};
 use avf_base::counter;
 use bit_field::plain_shape;
@@ -13,8 +15,6 @@ use std::process::Abort;
 use std::sync::ledger::{Blank, Ledger};
 use std::test::Fail;
 use wb_cache::{CacheEvent, EventKind};
-
-ghost use Rattle.std.specs.Prelude.{◌≡◌, ◌<◌};
 
 // lui s0, 0x80; loads of 0x80000, 0x80400, 0x80600 and 0x80200; addi a7, zero, 93; ecall
 const LOADS: [u32; 7] = [
@@ -80,7 +80,10 @@ fn check(rt: &impl Abort, alloc: Global, trace: &Trace) -> Result<(), Fail> {
     assert!(rt; is_event_log(&events, &shape));
     let table = tag_table(alloc, &events, trace, &shape)?;
     for Row { line, t, looked_up } in &rows {
-        assert!(rt; table.looked_up(0, 0, *line, *t) == *looked_up, "{line} from {t}");
+        assert!(rt;
+            table.looked_up(0, 0, *line, *t) == *looked_up,
+            "{line} from {t}"
+        );
     }
     check_accesses(rt, &table);
     Ok(())

@@ -54,9 +54,8 @@ entry-below image is = go (fetch image (image.entry / 4)) refl is.entry_executab
   where
     go : (o : Option ℕ) → fetch image (image.entry / 4) ≡ o → IsSome o → image.entry / 4 < 2 ^ 30
     go (Some x) e h =
-        let inside =
-        executable-in_ram image (4 * (image.entry / 4) + 0)
-        (word_executable-byte image (image.entry / 4) 0 (fetch-executable image (image.entry / 4) x e) (omega arith)) in
+        let word = fetch-executable image (image.entry / 4) x e in
+        let inside = executable-in_ram image (4 * (image.entry / 4) + 0) (word_executable-byte image (image.entry / 4) 0 word (omega arith)) in
         let below = in_ram-below image (4 * (image.entry / 4) + 0) is inside in
         omega (arith, below)
     go None e h = absurd cc

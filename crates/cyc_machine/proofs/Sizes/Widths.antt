@@ -143,17 +143,18 @@ kept_stores-steady image Waits es is = stray-steady image es is
 kept_stores-steady image Leaves es is = stray-steady image es is
 kept_stores-steady image (Fills line way) es is = stray-steady image es is
 
+halves : (x : ℕ) → (x / 2 % 2 ≡ 0) ⊎ (x / 2 % 2 ≢ 0)
+halves x = grind arith
+
+same-below : (m n : ℕ) → m ≡ n → n < 16 → m < 16
+same-below m n e h = omega (arith, e, h)
+
 mask-below : (kind : StoreKind) (x : ℕ) → lane_mask (store_size kind) x < 16
 mask-below Sb x = let k : x % 4 < 4 = omega arith in grind (arith, byte_mask_below x, byte_mask x)
-mask-below Sh x =
-    elim (halves x) as (λ _. lane_mask 2 x < 16) [
-      | inl low ↦ let e = low_half_mask x low in omega (arith, e)
-      | inr high ↦ let e =
-          high_half_mask x high in omega (arith, e)
-    ]
-  where
-    halves : (x : ℕ) → (x / 2 % 2 ≡ 0) ⊎ (x / 2 % 2 ≢ 0)
-    halves x = grind arith
+mask-below Sh x = elim (halves x) as (λ _. lane_mask 2 x < 16) [
+  | inl low ↦ same-below (lane_mask 2 x) 3 (low_half_mask x low) (lit< tt)
+  | inr high ↦ same-below (lane_mask 2 x) 12 (high_half_mask x high) (lit< tt)
+]
 mask-below Sw x = omega (arith, word_mask x)
 
 appended-steady : (image : LoadedImage) (m : Action) (room : Bool) → IsImage image → AreSteady (appended image m room)

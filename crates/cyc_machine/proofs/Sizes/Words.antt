@@ -36,6 +36,7 @@ use Rattle.pipe_latch.specs.declared.forward.Forwarded.TheVariants.{Value, Wait}
 use Rattle.inst_buf.specs.Buffer.{entries}
 use Rattle.inst_buf.specs.Entry.{Entry as Fetched}
 use Rattle.store_buf.specs.Covers.{covered}
+use Rattle.store_buf.specs.EntryBits as store_bits
 use Rattle.store_buf.specs.Entry.{Entry, no_entry}
 use Rattle.store_buf.specs.Pending.{is_pending, packed, pending, younger}
 use Rattle.store_buf.specs.declared.cover.Cover.{Cover}
@@ -51,11 +52,11 @@ use Rattle.cyc_machine.specs.Memory.{appended, covered_value, entry_of, kept_sto
 use Rattle.cyc_machine.specs.Memory.{value_read, without_stray, word_read}
 use Rattle.cyc_machine.specs.Pipeline.{counted, decoded, decoded_after, executed_after, fate_of, goes_with, held_value, operand_b, register, taken}
 use Rattle.cyc_machine.specs.Pipeline.{written_registers}
-use Rattle.cyc_machine.specs.Sizes.{IsDecodedSteady, IsExecutedSteady, IsSteady}
+use Rattle.cyc_machine.specs.Sizes.{IsDecodedSteady, IsExecutedSteady, IsPendingSteady, IsSteady}
 use Rattle.cyc_machine.specs.SizesLaw.{SizesLaw}
 use Rattle.cyc_machine.specs.Run.{state_after, state_at}
 use Rattle.cyc_machine.specs.State.{State, reset}
-use Rattle.cyc_machine.proofs.RunsOn.{numbered}
+use Rattle.cyc_machine.proofs.RunsOn.{cycle-at}
 use Rattle.cyc_machine.proofs.Sizes.Flipped.{flip-keeps, in-range, made}
 use Rattle.cyc_machine.proofs.Sizes.Lasting.{contents, machine-reset, machine-steady, steady-next}
 
@@ -379,6 +380,12 @@ decoded-fits d is words =
 executed-fits : (m : ExecutedLatch) → IsExecutedSteady m → IsLatched m → exmem.IsFit m
 executed-fits m is words = (flag-below m.valid, (is.kind, (is.rd, (words.0, (words.1, (is.cause, tt))))))
 
+stored-fits : (e : Entry) → IsPendingSteady e → IsWord e.value → store_bits.IsFit e
+stored-fits e is word = (is.0, (is.1, (word, tt)))
+
+values : (s : State) → IsMachine s → AreStored s.stores
+values s is = λ k e l. (is.stores.1 k e l).1.1.0
+
 pub machine-next : (s : State) → IsMachine s → s.cycle < 2 ^ 32 → IsMachine (cycle s)
 unfolding cycled
 machine-next s is small =
@@ -399,25 +406,16 @@ machine-next s is small =
         tt,
       ),
     )
-    (next.registers, registers-words s.w s.registers value is.registers.1) (
-      next.slots,
-      λ k e l. let fit =
-          next.masks k e l
-          in (fit.0, (fit.1, (stores_after-words s.image (action_in_m s) (move s) s.stores words (λ k e l. (is.stores.1 k e l).1.1.0) k e l, tt))),
-    )
+    (next.registers, registers-words s.w s.registers value is.registers.1)
+    (next.slots, λ k e l. stored-fits _ (next.masks k e l) (stores_after-words s.image (action_in_m s) (move s) s.stores words (values s is) k e l))
     (next.port, (flag-below (cycle s).port.owner, tt))
-
-first : (image : LoadedImage) (shape : Shape) → (reset image shape).cycle ≡ 0
-unfolding reset
-first image shape = refl
 
 pub machine-at : (image : LoadedImage) (shape : Shape) (t : ℕ) → IsImage image → IsShape shape → t ≤ 2 ^ 32 → IsMachine (state_at image shape t)
 unfolding state_after
 machine-at image shape zero is fits h = machine-reset image shape is fits
 machine-at image shape (suc t) is fits h =
-    let number = numbered t (reset image shape) in
-    let zero-first = first image shape in
-    machine-next (state_at image shape t) (machine-at image shape t is fits (omega (arith, h))) (omega (arith, h, number, zero-first))
+    let number = cycle-at image shape t in
+    machine-next (state_at image shape t) (machine-at image shape t is fits (omega (arith, h))) (omega (arith, h, number))
 
 pub sizes-law : SizesLaw
 sizes-law = record {

@@ -30,7 +30,7 @@ use Rattle.cyc_machine.specs.State.{State}
 use Rattle.flush_view.specs.Views.{byte_in, cached, overlaid, view}
 use Rattle.flush_view.proofs.Memory.Loads.{covered-byte, uncovered-byte}
 use Rattle.cyc_machine.proofs.Tells.{Tells, tells}
-use Rattle.flush_view.proofs.Memory.Overlay.{lane-byte}
+use Rattle.cyc_machine.proofs.LoadedLanes.{lane-byte}
 use Rattle.cyc_machine.specs.Sizes.{IsSteady}
 
 -- ---- the word that the port reads

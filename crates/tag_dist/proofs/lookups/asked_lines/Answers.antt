@@ -12,9 +12,9 @@ loop-event-init c = rw c.new-asked.ensures.empty (asked-none c.args.events.now)
 pub loop-event-preserved : goal.loop-event-preserved
 loop-event-preserved c =
     asked-more c.args.events.now c.loop-event.event-index
-        (get_or c.args.events.now c.loop-event.event-index
-        (record { cycle = 0; kind = Read; line = 0; set = 0; way = 0; mask = 0; word = 0 })) c.loop-event.asked.entries c.note_line.new.asked.entries
-        (omega arith) (get_or_default c.args.events.now c.loop-event.event-index _ _ (omega arith)) c.in_ok-note_line.ensures c.loop-event.invariant
+    (get_or c.args.events.now c.loop-event.event-index
+    (record { cycle = 0; kind = Read; line = 0; set = 0; way = 0; mask = 0; word = 0 })) c.loop-event.asked.entries c.note_line.new.asked.entries
+    (omega arith) (get_or_default c.args.events.now c.loop-event.event-index _ _ (omega arith)) c.in_ok-note_line.ensures c.loop-event.invariant
 
 pub returns : goal.returns
 returns c =

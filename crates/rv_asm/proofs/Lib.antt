@@ -1,0 +1,16 @@
+pub mod KeywordTable
+pub mod Digits
+pub mod Registers
+pub mod Reading
+pub mod Operands
+pub mod Sound
+pub mod LineForms
+pub mod LineCuts
+pub mod LayingOut
+pub mod Searching
+pub mod Immediates
+pub mod Emitting
+pub mod Sizes
+pub mod Putting
+pub mod Starting
+pub mod Assembled

@@ -1,0 +1,15 @@
+pub mod Bytes
+pub mod Chains
+pub mod Faults
+pub mod Keywords
+pub mod Labels
+pub mod Layout
+pub mod Lines
+pub mod Names
+pub mod Numbers
+pub mod Program
+pub mod Shown
+pub mod Sound
+pub mod Sources
+pub mod Statements
+pub mod Tokens
