@@ -44,7 +44,7 @@ same_needed n mask a b h = (
   λ s. rw (all_same n mask a b h s) refl,
 )
 
-same_all : (n mask a b : ℕ) → a ≡ b → SameWhere n mask a b
+pub same_all : (n mask a b : ℕ) → a ≡ b → SameWhere n mask a b
 same_all n mask a b e = record { same = λ k l one. ap (λ (v : ℕ). bit_at v k) e }
 
 -- ---- registers

@@ -1,5 +1,6 @@
 // Whether two aftermaths agree where it is needed.
-ghost use Rattle.std.specs.Prelude.{◌≡◌, ◌↔◌, ◌+◌, ◌^◌, ◌≤◌, IsTrue, Some, slice_index};
+ghost use Rattle.std.specs.Prelude.{◌≡◌, ◌↔◌, ◌+◌, ◌^◌, ◌<◌, ◌≤◌, IsTrue, Some, slice_index};
+ghost use Rattle.need_pass.specs.Tables.{byte_need, reg_need};
 ghost use Rattle.rv_isa.specs.Architecture.{state_of};
 ghost use Rattle.eval_mask.specs.Aftermaths.{memory_after, output_after, registers_after, state_after, written};
 ghost use Rattle.eval_mask.specs.Agreement.{Agree};
@@ -23,6 +24,26 @@ fn same_bits(mask: u8, a: u8, b: u8) -> bool
     mask & (a ^ b) == 0
 }
 
+/// Whether two values of register `r` are the same where it is needed. Need is looked up only where they differ.
+#[tactic(auto, using(crate::proofs::Differences::same_all))]
+fn same_values(needs: &NeedTable, at: u32, r: u8, a: u32, b: u32) -> bool
+    requires above { 0 < r }
+    requires below { r < 32 }
+    requires at { at ≤ needs.now.count }
+    ensures { IsTrue result ↔ SameWhere 32 (reg_need needs.now r at) a b }
+{
+    a == b || same_word(needs.reg_need(r, at), a, b)
+}
+
+/// Whether two values of the byte at a byte address are the same where it is needed.
+#[tactic(auto, using(crate::proofs::Differences::same_all))]
+fn same_byte_values(needs: &NeedTable, at: u32, address: u32, a: u8, b: u8) -> bool
+    requires { at ≤ needs.now.count }
+    ensures { IsTrue result ↔ SameWhere 8 (byte_need needs.now address at) a b }
+{
+    a == b || same_bits(needs.byte_need(address, at), a, b)
+}
+
 /// Whether register `r` is the same where it is needed. Register 0 is never needed.
 fn same_register(
     arch: &Arch<'_>,
@@ -40,8 +61,10 @@ fn same_register(
         return true;
     }
     let before = register_over(oldest, r, arch.reg(r));
-    same_word(
-        needs.reg_need(r, at),
+    same_values(
+        needs,
+        at,
+        r,
         left.register(r, before),
         other.register(r, before),
     )
@@ -81,8 +104,10 @@ fn same_byte(
     ensures { IsTrue result ↔ SameByte needs.now at (memory_after left.now (state_of arch.now).memory) (memory_after other.now (state_of arch.now).memory) address }
 {
     let before = arch.byte(address);
-    same_bits(
-        needs.byte_need(address, at),
+    same_byte_values(
+        needs,
+        at,
+        address,
         left.byte(address, before),
         other.byte(address, before),
     )
