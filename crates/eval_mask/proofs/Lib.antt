@@ -5,5 +5,6 @@ pub mod EffectsTold
 pub mod Fields
 pub mod MaskLoops
 pub mod Masked
+pub mod OwnChange
 pub mod Puts
 pub mod WordBits

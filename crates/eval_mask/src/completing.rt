@@ -207,6 +207,13 @@ pub fn end_of(action: &Action) -> Option<End>
     }
 }
 
+/// What EX/MEM changes over the memory of `arch`.
+pub fn executed_change(arch: &Arch<'_>, m: &ExMem) -> Change
+    ensures { result ≡ spec.change_of arch.now.image (action_of m.now) (state_of arch.now).memory }
+{
+    change_of(arch, &None, &m.action())
+}
+
 /// What an action changes, over the memory of `arch` after a store.
 #[tactic(auto, unfolding(crate::specs::Aftermaths::change_of))]
 fn change_of(arch: &Arch<'_>, under: &Option<Store>, action: &Action) -> Change
@@ -250,9 +257,10 @@ fn decoded_next(d: &IdEx, a: u32, b: u32, image: &Image) -> u32
 }
 
 /// What MEM/WB, EX/MEM and a reached ID/EX leave once they are completed over the memory of `arch`. `npc` is the word address that
-/// comes next and `issued` the number of instructions before it.
+/// comes next, `issued` the number of instructions before it, and `below` what EX/MEM changes.
 #[tactic(auto, unfolding(crate::specs::Aftermaths::aftermath_of, crate::specs::Aftermaths::change_of))]
 pub fn completed(
+    below: &Change,
     w: &MemWb,
     m: &ExMem,
     d: &IdEx,
@@ -260,13 +268,14 @@ pub fn completed(
     npc: u32,
     issued: u32,
 ) -> Aftermath
+    requires { below.now ≡ spec.change_of arch.now.image (action_of m.now) (state_of arch.now).memory }
     ensures { result ≡ spec.aftermath_of arch.now.image w.now m.now d.now (state_of arch.now).memory npc issued }
 {
     let first = Write {
         rd: w.rd,
         value: w.value,
     };
-    let below = change_of(arch, &None, &m.action());
+    let below = *below;
     if !(d.valid && below.end.is_none() && d.pc == npc) {
         return Aftermath {
             first,

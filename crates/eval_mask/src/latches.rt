@@ -3,15 +3,16 @@ ghost use Rattle.std.specs.Prelude.{◌≡◌, ◌↔◌, ◌+◌, ◌<◌, ◌�
 ghost use Rattle.rv_isa.specs.Architecture.{ArchState, state_of};
 ghost use Rattle.pipe_latch.specs.DecodedBits as decoded;
 ghost use Rattle.pipe_latch.specs.ExecutedBits as executed;
+ghost use Rattle.pipe_latch.specs.LatchedActions.{action_of};
 ghost use Rattle.pipe_latch.specs.Latches.{ResultLatch};
 ghost use Rattle.pipe_latch.specs.ResultBits as written;
-ghost use Rattle.eval_mask.specs.Aftermaths.{aftermath_of};
+ghost use Rattle.eval_mask.specs.Aftermaths.{aftermath_of, change_of};
 ghost use Rattle.eval_mask.specs.Cases.{IsCase, IsMaskBelow};
 ghost use Rattle.eval_mask.specs.LatchMasks as masks;
 ghost use Rattle.eval_mask.specs.LatchMasks.{HasBits, IsDecodedMasked, IsExecutedMasked, IsLatchMask, IsMasked, IsResultMasked, Latches, base_of, is_in};
 
 use crate::compare::agree;
-use crate::completing::{Aftermath, Write, completed, end_of};
+use crate::completing::{Aftermath, Change, Write, completed, end_of, executed_change};
 use bit_field::{EX_MEM_BITS, ID_EX_BITS, MEM_WB_BITS, Struck};
 use need_pass::NeedTable;
 use pipe_latch::{ExMem, ExMemField, IdEx, IdExField, MemWb};
@@ -93,7 +94,7 @@ fn case_of(
         issued,
         on_path,
         first_after: first_after(on_path, issued, count),
-        own: completed(w, m, d, arch, npc, issued),
+        own: completed(&executed_change(arch, m), w, m, d, arch, npc, issued),
     }
 }
 
@@ -105,8 +106,9 @@ fn reads_clock(m: &ExMem, d: &IdEx, npc: u32) -> bool
     d.valid && (end_of(&m.action()).is_none() && d.pc == npc) && is_clocked(&d.instruction())
 }
 
-/// Whether the outcome of flipped latches agrees with that of the latches of a case.
+/// Whether the outcome of flipped latches agrees with that of the latches of a case. `below` is what EX/MEM changes.
 fn is_masked(
+    below: &Change,
     w: &MemWb,
     m: &ExMem,
     d: &IdEx,
@@ -114,13 +116,14 @@ fn is_masked(
     needs: &NeedTable,
     case: &Case,
 ) -> bool
-    requires { case.now.first_after ≤ needs.now.count }
+    requires within { case.now.first_after ≤ needs.now.count }
+    requires below { below.now ≡ change_of arch.now.image (action_of m.now) (state_of arch.now).memory }
     ensures { (l : Latches) → case.now.own ≡ aftermath_of arch.now.image l.w l.m l.d (state_of arch.now).memory case.now.npc case.now.issued → IsTrue result ↔ IsMasked needs.now case.now.first_after arch.now.image (base_of arch.now case.now.oldest.rd case.now.oldest.value case.now.npc case.now.issued) l (record { w = w.now; m = m.now; d = d.now }) }
 {
     if reads_clock(m, d, case.npc) {
         return false;
     }
-    let flipped = completed(w, m, d, arch, case.npc, case.issued);
+    let flipped = completed(below, w, m, d, arch, case.npc, case.issued);
     agree(
         arch,
         &case.oldest,
@@ -171,6 +174,7 @@ fn in_written(k: u32) -> bool
 }
 
 /// Whether bit `k` of ID/EX is masked.
+#[tactic(auto, using(crate::proofs::OwnChange::own_below))]
 fn decoded_bit(
     w: &MemWb,
     m: &ExMem,
@@ -192,7 +196,7 @@ fn decoded_bit(
     }
     let mut flipped = *d;
     flipped.flip(k);
-    is_masked(w, m, &flipped, arch, needs, case)
+    is_masked(&case.own.below, w, m, &flipped, arch, needs, case)
 }
 
 /// Whether bit `k` of EX/MEM is masked.
@@ -214,10 +218,12 @@ fn executed_bit(
     }
     let mut flipped = *m;
     flipped.flip(k);
-    is_masked(w, &flipped, d, arch, needs, case)
+    let below = executed_change(arch, &flipped);
+    is_masked(&below, w, &flipped, d, arch, needs, case)
 }
 
 /// Whether bit `k` of MEM/WB is masked.
+#[tactic(auto, using(crate::proofs::OwnChange::own_below))]
 fn written_bit(
     w: &MemWb,
     m: &ExMem,
@@ -236,7 +242,7 @@ fn written_bit(
     }
     let mut flipped = *w;
     flipped.flip(k);
-    is_masked(&flipped, m, d, arch, needs, case)
+    is_masked(&case.own.below, &flipped, m, d, arch, needs, case)
 }
 
 /// The masked bits of ID/EX below 128.
