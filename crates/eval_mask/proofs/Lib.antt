@@ -7,4 +7,6 @@ pub mod MaskLoops
 pub mod Masked
 pub mod OwnChange
 pub mod Puts
+pub mod Seeming
+pub mod UnderLog
 pub mod WordBits

@@ -4,4 +4,5 @@ pub mod Cases
 pub mod Compared
 pub mod Effects
 pub mod LatchMasks
+pub mod Seems
 pub mod WordMasks
