@@ -1,5 +1,5 @@
 -- The outcome with clock values to come and a log: where no read of the cycle counter is completed, it is that without, behind the log.
-use Rattle.std.proofs.Common.{◌≡◌, ℕ, Bool, true, false, List, [], ◌∷◌, ◌++◌, refl, sym, ◌∙◌, ap, arith, append_assoc, append-nil}
+use Rattle.std.proofs.Common.{◌≡◌, ℕ, Bool, true, false, List, [], ◌++◌, refl, sym, ◌∙◌, ap, arith, append_assoc, append-nil}
 use Rattle.std.specs.Prelude.{◌==◌, ◌&&◌, is_none, Option, Some, None, if◌then◌else◌}
 use Rattle.std.proofs.lemmas.Bool.Decides.{nat_tests}
 use Rattle.avf_base.specs.declared.end.End.{End}
@@ -7,12 +7,11 @@ use Rattle.elf_load.specs.Image.{LoadedImage}
 use Rattle.rv_table.specs.Actions.{clock_test, counter_by, is_clocked, next_address, with_counter}
 use Rattle.rv_table.specs.Effects.{byte_put, written_register}
 use Rattle.rv_table.specs.Operations.{operation_of}
-use Rattle.rv_table.specs.declared.action.Action.{Action}
 use Rattle.rv_table.specs.declared.op.Op.{Op}
 use Rattle.rv_table.specs.declared.operation.Operation.{Operation}
 use Rattle.rv_isa.specs.Instruction.{Log, State, action_in, completed, end_of, first_clock, given, later_clocks, logged, memory_after, next_count, put_reg, with_byte}
 use Rattle.pipe_latch.specs.LatchedActions.{action_of}
-use Rattle.pipe_latch.specs.Latches.{DecodedLatch, ExecutedLatch, ResultLatch, op_of_latch}
+use Rattle.pipe_latch.specs.Latches.{op_of_latch}
 use Rattle.cyc_machine.specs.InFlight.{completed_item, is_latch_reached, item_of_latch, latches_completed, operand_held, outcome}
 use Rattle.eval_mask.specs.LatchMasks.{Latches, reads_clock}
 use Rattle.eval_mask.specs.Seems.{StandsAt, no_log, under}
@@ -24,10 +23,6 @@ unread_by o c d n b e = grind (arith, nat_tests)
 unread_counter : (op : Op) (c d n b : ℕ) → is_clocked op ≡ false → with_counter op c n b ≡ with_counter op d n b
 unfolding is_clocked with_counter
 unread_counter op c d n b e = unread_by (operation_of op.code) c d n b e
-
-one_byte : (xs ys : List ℕ) (o : Option ℕ) → with_byte (xs ++ ys) o ≡ xs ++ with_byte ys o
-one_byte xs ys (Some byte) = append_assoc xs ys (byte ∷ [])
-one_byte xs ys None = refl
 
 first_byte : (xs : List ℕ) (o : Option ℕ) → with_byte xs o ≡ xs ++ with_byte [] o
 first_byte xs (Some byte) = refl
@@ -47,11 +42,12 @@ no_clocks : (t : Bool) (xs ys : List ℕ) → t ≡ false → (if t then ys else
 no_clocks true xs ys e = absurd (grind arith)
 no_clocks false xs ys e = refl
 
-completed_under : (image : LoadedImage) (op : Op) (pc a b : ℕ) (clocks before : List ℕ) (log : Log) (base : State) → is_clocked op ≡ false
+pub completed_under : (image : LoadedImage) (op : Op) (pc a b : ℕ) (clocks before : List ℕ) (log : Log) (base : State) → is_clocked op ≡ false
     → log.output ≡ before ++ base.log.output → IsUnder clocks before (completed image op pc a b (under clocks log base)) (completed image op pc a b base)
 unfolding completed
 completed_under image op pc a b clocks before log base unread e =
     let same = unread_counter op (first_clock clocks) (first_clock base.clocks) base.count b unread in
+    let last = byte_put (action_in image op pc a (with_counter op (first_clock base.clocks) base.count b)) in
     record {
       stands =
           record {
@@ -63,8 +59,10 @@ completed_under image op pc a b clocks before log base unread e =
             stop = ap (λ (c : ℕ). end_of (action_in image op pc a c)) same;
             output =
                 ap (λ (c : ℕ). with_byte log.output (byte_put (action_in image op pc a c))) same
-                ∙ ap (λ (bytes : List ℕ). with_byte bytes (byte_put (action_in image op pc a (with_counter op (first_clock base.clocks) base.count b)))) e
-                ∙ one_byte before base.log.output (byte_put (action_in image op pc a (with_counter op (first_clock base.clocks) base.count b)));
+                ∙ ap (λ (bytes : List ℕ). with_byte bytes last) e
+                ∙ first_byte (before ++ base.log.output) last
+                ∙ append_assoc before base.log.output (with_byte [] last)
+                ∙ ap (λ (bytes : List ℕ). before ++ bytes) (sym (first_byte base.log.output last));
           };
       left = no_clocks (is_clocked op) clocks (later_clocks clocks) unread;
     }

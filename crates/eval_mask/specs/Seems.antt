@@ -1,12 +1,16 @@
 -- A state that seems the recorded one: what the masks are good for.
-use Rattle.std.specs.Prelude.{◌≡◌, ℕ, ◌+◌, ◌++◌, List, [], drop, None, false}
+use Rattle.std.specs.Prelude.{◌≡◌, ℕ, ◌+◌, ◌++◌, List, [], drop, None}
 use Rattle.elf_load.specs.Image.{LoadedImage}
 use Rattle.rv_isa.specs.declared.effect.Retired.{Retired}
 use Rattle.rv_isa.specs.Instruction.{Log, State}
 use Rattle.cyc_machine.specs.InFlight.{outcome}
+use Rattle.rv_isa.specs.Architecture.{ArchState, state_of}
+use Rattle.rv_isa.specs.Effects.{operated}
+use Rattle.rv_table.specs.Words.{decode}
 use Rattle.need_pass.specs.Needed.{Agrees}
 use Rattle.need_pass.specs.Tables.{Needs, IsNeedOf}
 use Rattle.eval_mask.specs.LatchMasks.{IsMasked, Latches}
+use Rattle.eval_mask.specs.WordMasks.{IsAlikeWord}
 
 -- with these clock values to come and this log
 abbrev pub under : List ℕ → Log → State → State
@@ -41,3 +45,10 @@ MaskedSeems =
     → StandsAt log.output recorded (outcome image l.w l.m l.d (under [] no_log at))
     → IsMasked needs j image (under [] no_log at) l other
     → Seems (drop j entries) clocks recorded (outcome image other.w other.m other.d (under clocks log at))
+
+-- The same of an instruction word, at a state of the run: `at` is the state that the program holds, with a log.
+abbrev pub WordSeems : Type 0
+WordSeems =
+    (entries : List Retired) (needs : Needs) (i word other : ℕ) (arch : ArchState) (at : State)
+    → IsNeedOf entries needs → state_of arch ≡ under at.clocks no_log at → IsAlikeWord needs i arch word other
+    → Seems (drop (i + 1) entries) at.clocks (operated arch.image (decode word) at) (operated arch.image (decode other) at)
