@@ -9,4 +9,5 @@ pub mod OwnChange
 pub mod Puts
 pub mod Seeming
 pub mod UnderLog
+pub mod UnreadBits
 pub mod WordBits

@@ -17,7 +17,7 @@ use bit_field::{EX_MEM_BITS, ID_EX_BITS, MEM_WB_BITS, Struck};
 use need_pass::NeedTable;
 use pipe_latch::{ExMem, ExMemField, IdEx, IdExField, MemWb};
 use rv_isa::Arch;
-use rv_table::is_clocked;
+use rv_table::{Action, is_clocked};
 
 /// The logically masked bits of the latches: a bit is set exactly where flipping it leaves an outcome that agrees, for all that the
 /// run needs. Bits that no field holds, and those of fields that say where and when an instruction is, are never set.
@@ -45,6 +45,8 @@ pub struct Case {
     pub on_path: bool,
     /// The instruction from which on bits are needed.
     pub first_after: u32,
+    /// Whether completing the latches as they are completes a read of the cycle counter.
+    pub reads_clock: bool,
     /// What the latches leave as they are.
     pub own: Aftermath,
 }
@@ -94,6 +96,7 @@ fn case_of(
         issued,
         on_path,
         first_after: first_after(on_path, issued, count),
+        reads_clock: reads_clock(m, d, npc),
         own: completed(&executed_change(arch, m), w, m, d, arch, npc, issued),
     }
 }
@@ -199,7 +202,13 @@ fn decoded_bit(
     is_masked(&case.own.below, w, m, &flipped, arch, needs, case)
 }
 
-/// Whether bit `k` of EX/MEM is masked.
+fn same_action(a: &Action, b: &Action) -> bool
+    ensures { IsTrue result ↔ (a.now ≡ b.now) }
+{
+    *a == *b
+}
+
+/// Whether bit `k` of EX/MEM is masked. A bit that its action doesn't show changes nothing.
 fn executed_bit(
     w: &MemWb,
     m: &ExMem,
@@ -218,6 +227,9 @@ fn executed_bit(
     }
     let mut flipped = *m;
     flipped.flip(k);
+    if same_action(&flipped.action(), &m.action()) {
+        return !case.reads_clock;
+    }
     let below = executed_change(arch, &flipped);
     is_masked(&below, w, &flipped, d, arch, needs, case)
 }
