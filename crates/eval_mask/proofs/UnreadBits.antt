@@ -12,9 +12,9 @@ use Rattle.cyc_machine.specs.InFlight.{completed_item, is_latch_reached, item_of
 use Rattle.need_pass.specs.Tables.{Needs}
 use Rattle.eval_mask.specs.Agreement.{Agree}
 use Rattle.eval_mask.specs.Cases.{IsCase}
-use Rattle.eval_mask.specs.LatchMasks.{IsMasked, reads_clock}
+use Rattle.eval_mask.specs.LatchMasks.{reads_clock}
 use Rattle.eval_mask.specs.declared.latches.Case.{Case}
-use Rattle.eval_mask.proofs.Masked.{IsAskedOf, no_both}
+use Rattle.eval_mask.proofs.Masked.{IsAskedOf}
 use Rattle.std.specs.Prelude.{◌&&◌, if◌then◌else◌}
 
 same_outcome : (image : LoadedImage) (w : ResultLatch) (m other : ExecutedLatch) (d : DecodedLatch) (at : State) → action_of other ≡ action_of m
