@@ -1,5 +1,6 @@
 -- What contracts see of the shelves and sinks in memory.
-use Rattle.std.specs.Prelude.{ℕ, ◌+◌, ◌-◌, ◌^◌, List, [], ◌∷◌, ◌++◌, length, take, Bool, ◌&&◌, Option, None, Some, min, if◌then◌else◌, bytes_eq, nat_le, unwrap_or}
+use Rattle.std.specs.Prelude.{ℕ, ◌+◌, ◌-◌, ◌^◌, List, [], ◌∷◌, ◌++◌, length, take, Bool, ◌&&◌, Option, None, Some, min, if◌then◌else◌, bytes_eq, nat_le}
+use Rattle.std.specs.Prelude.{unwrap_or}
 
 -- a name with its bytes
 pub record Entry : Type 0 where

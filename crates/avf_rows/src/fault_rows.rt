@@ -1,10 +1,10 @@
 // Rows over a shelf and sinks whose calls fail.
 ghost use Rattle.std.specs.Prelude.{◌≡◌, ◌<◌};
 
-use crate::images::{THREE, flat};
 use crate::rows::words;
 use avf_base::{MemShelf, MemSink, Steps, counter};
 use avf_tool::run_tool;
+use elf_fixture::{THREE, flat};
 use std::marker::Brand;
 use std::process::Abort;
 use std::rt::Files;

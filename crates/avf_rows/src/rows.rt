@@ -1,9 +1,10 @@
 // Rows over files in memory that never fail.
 ghost use Rattle.std.specs.Prelude.{◌≡◌, ◌<◌};
 
-use crate::images::{THREE, changed, flat, image, zeros};
+use crate::images::{changed, two_headers, zeros};
 use avf_base::{OutOfMemory, PlainShelf, PlainSink, Steps, counter};
 use avf_tool::run_tool;
+use elf_fixture::{THREE, flat};
 use std::alloc::{AllocError, Global};
 use std::marker::Brand;
 use std::process::Abort;
@@ -316,9 +317,9 @@ fn lengths<R: Abort + AllocGlobal, L: Ledger, M: Ledger>(
         let file = zeros(alloc, len).expect(rt, "ample memory");
         refused(rt, steps, applies, &file, reason);
     }
-    let twice = image(alloc, &[1, 1], &THREE).expect(rt, "ample memory");
+    let twice = two_headers(alloc, [1, 1]).expect(rt, "ample memory");
     refused(rt, steps, applies, &twice, 11);
-    let noted = image(alloc, &[1, 0x6474E551], &THREE).expect(rt, "ample memory");
+    let noted = two_headers(alloc, [1, 0x6474E551]).expect(rt, "ample memory");
     let text = "output -\nend exit 7\ninstructions 3\n";
     row(rt, steps, applies, "run a.elf 6", &noted, 0, text);
 }

@@ -9,10 +9,12 @@ use Rattle.avf_tool.specs.Ends.{Comes, Serves, Says, Ends, ByStatus, Due, Faults
 use Rattle.avf_tool.specs.Words.{Job, told_to}
 
 -- where the contents are told, what is due is what they give
-told : (job : Job) (holds : List ℕ → Option (List ℕ)) (contents : List ℕ) (due : Answer) → told_to job holds ≡ Some contents → Due job holds due → answer job contents ≡ due
+told : (job : Job) (holds : List ℕ → Option (List ℕ)) (contents : List ℕ) (due : Answer) → told_to job holds ≡ Some contents → Due job holds due
+    → answer job contents ≡ due
 told job holds contents due e h = subst (λ o. IfSome o (λ c. answer job c ≡ due)) e h
 
-same_job : (job j : Job) (holds : List ℕ → Option (List ℕ)) (contents : List ℕ) (due : Answer) → Some job ≡ Some j → told_to j holds ≡ Some contents → Due job holds due → answer j contents ≡ due
+same_job : (job j : Job) (holds : List ℕ → Option (List ℕ)) (contents : List ℕ) (due : Answer) → Some job ≡ Some j → told_to j holds ≡ Some contents
+    → Due job holds due → answer j contents ≡ due
 same_job job j holds contents due s e h =
     let P : Option Job → Type 0 = λ o. IfSome o (λ i. Due i holds due) in
     told j holds contents due e (subst P s h)
@@ -33,7 +35,8 @@ no_command holds shelf out err h = record {
 }
 
 -- a refusal that the contents give
-refused : (job : Job) (holds : List ℕ → Option (List ℕ)) (shelf : Faults) (out err : Use) (r : Refusal) → status_of r ≢ 2 → status_of r ≢ 3 → status_of r ≢ 7 → status_of r ≢ 0
+refused : (job : Job) (holds : List ℕ → Option (List ℕ)) (shelf : Faults) (out err : Use) (r : Refusal) → status_of r ≢ 2 → status_of r ≢ 3
+    → status_of r ≢ 7 → status_of r ≢ 0
     → Due job holds (Refused r) → out.new ≡ out.old → ByStatus (Some job) holds shelf out err (status_of r)
 refused job holds shelf out err r a b c d h n = record {
   usage = (λ e. absurd (a e), λ e. search rules);
@@ -46,7 +49,8 @@ refused job holds shelf out err r a b c d h n = record {
   complete = λ j contents s e _ _. inl (sym (ap status_due (same_job job j holds contents (Refused r) s e h)));
 }
 
-read_failed : (job : Job) (holds : List ℕ → Option (List ℕ)) (shelf : Faults) (out err : Use) → Comes (Some job) holds shelf out ReadFault → ByStatus (Some job) holds shelf out err 3
+read_failed : (job : Job) (holds : List ℕ → Option (List ℕ)) (shelf : Faults) (out err : Use) → Comes (Some job) holds shelf out ReadFault
+    → ByStatus (Some job) holds shelf out err 3
 read_failed job holds shelf out err h = record {
   usage = (λ e. absurd (omega (arith, e)), λ e. search rules);
   read_fault = λ _. h.0;
@@ -58,7 +62,8 @@ read_failed job holds shelf out err h = record {
   complete = λ j contents s e calm _. absurd (calm h.0);
 }
 
-write_failed : (job : Job) (holds : List ℕ → Option (List ℕ)) (shelf : Faults) (out err : Use) → Comes (Some job) holds shelf out WriteFault → ByStatus (Some job) holds shelf out err 7
+write_failed : (job : Job) (holds : List ℕ → Option (List ℕ)) (shelf : Faults) (out err : Use) → Comes (Some job) holds shelf out WriteFault
+    → ByStatus (Some job) holds shelf out err 7
 write_failed job holds shelf out err h = record {
   usage = (λ e. absurd (omega (arith, e)), λ e. search rules);
   read_fault = λ e. absurd (omega (arith, e));
@@ -82,7 +87,8 @@ no_memory job holds shelf out err h = record {
   complete = λ j contents s e _ _. inr refl;
 }
 
-printed : (job : Job) (holds : List ℕ → Option (List ℕ)) (shelf : Faults) (out err : Use) (text : List ℕ) → Due job holds (Text text) → Grows out.old out.new text → err.new ≡ err.old → ByStatus (Some job) holds shelf out err 0
+printed : (job : Job) (holds : List ℕ → Option (List ℕ)) (shelf : Faults) (out err : Use) (text : List ℕ) → Due job holds (Text text)
+    → Grows out.old out.new text → err.new ≡ err.old → ByStatus (Some job) holds shelf out err 0
 printed job holds shelf out err text h g n = record {
   usage = (λ e. absurd (omega (arith, e)), λ e. search rules);
   read_fault = λ e. absurd (omega (arith, e));
@@ -94,7 +100,8 @@ printed job holds shelf out err text h g n = record {
   complete = λ j contents s e _ _. inl (sym (ap status_due (same_job job j holds contents (Text text) s e h)));
 }
 
-ended : (asked : Option Job) (holds : List ℕ → Option (List ℕ)) (shelf : Faults) (out err : Use) (end : Result (Unit {0}) Refusal) → Serves asked holds shelf out end
+ended : (asked : Option Job) (holds : List ℕ → Option (List ℕ)) (shelf : Faults) (out err : Use) (end : Result (Unit {0}) Refusal)
+    → Serves asked holds shelf out end
     → (status : ℕ) → Says err status end → ByStatus asked holds shelf out err status
 ended None holds shelf out err (Ok done) h status s = absurd h
 ended None holds shelf out err (Err r) h status s =
@@ -121,5 +128,6 @@ ended (Some job) holds shelf out err (Err WriteFault) h status s =
 ended (Some job) holds shelf out err (Err OutOfMemory) h status s =
     subst (ByStatus (Some job) holds shelf out err) (sym s.0) (no_memory job holds shelf out err h)
 
-pub by_status : (asked : Option Job) (holds : List ℕ → Option (List ℕ)) (shelf : Faults) (out err : Use) (status : ℕ) → Ends asked holds shelf out err status → ByStatus asked holds shelf out err status
+pub by_status : (asked : Option Job) (holds : List ℕ → Option (List ℕ)) (shelf : Faults) (out err : Use) (status : ℕ)
+    → Ends asked holds shelf out err status → ByStatus asked holds shelf out err status
 by_status asked holds shelf out err status h = ended asked holds shelf out err h.0 h.1 status h.2

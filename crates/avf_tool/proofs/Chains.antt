@@ -22,7 +22,8 @@ on_loaded shape contents next fits fine =
     rw short (rw fine refl)
 
 -- a run that ends goes on
-on_ended : (shape : Shape) (contents : List ℕ) (image : LoadedImage) (budget : ℕ) (run : RecordedRun) (next : RecordedRun → Answer) → length contents ≤ IMAGE_LIMIT
+on_ended : (shape : Shape) (contents : List ℕ) (image : LoadedImage) (budget : ℕ) (run : RecordedRun) (next : RecordedRun → Answer)
+    → length contents ≤ IMAGE_LIMIT
     → (first_refusal contents (ram_size shape) ≡ None) × (image ≡ image_of contents (ram_size shape))
     → record_within image shape budget ≡ Some run
     → on_image shape contents (on_run shape budget next) ≡ next run

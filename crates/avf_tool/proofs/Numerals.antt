@@ -11,14 +11,17 @@ own : IsNumeralModel (λ ds. all_ascii_digits ds ≡ true) (digits_value 10)
 own = numerals_by_value _ tells_all_ascii_digits
 
 -- the definition, over what its tests give
-number_is : (least most : ℕ) (text : List ℕ) → all_ascii_digits text ≡ true → 0 < length text → is_plain text ≡ true → number least most text ≡ within least most (digits_value 10 text)
+number_is : (least most : ℕ) (text : List ℕ) → all_ascii_digits text ≡ true → 0 < length text → is_plain text ≡ true
+    → number least most text ≡ within least most (digits_value 10 text)
 number_is least most text all some lead =
     let one : nat_lt 0 (length text) ≡ true = grind (arith, nat_tests) in
     rw all (rw one (rw lead refl))
 
-pub found : (least most n : ℕ) (text : List ℕ) → ParsesUnsigned {E = ℕ} 64 10 text (Ok n) → get_or text 0 0 ≢ 43 → is_plain text ≡ true → within least most n ≡ number least most text
+pub found : (least most n : ℕ) (text : List ℕ) → ParsesUnsigned {E = ℕ} 64 10 text (Ok n) → get_or text 0 0 ≢ 43 → is_plain text ≡ true
+    → within least most n ≡ number least most text
 found least most n text h plain lead =
-    let p : (((all_ascii_digits text ≡ true) × (0 < length text) × (digits_value 10 text < 2 ^ 64)) × (n ≡ digits_value 10 text)) = parse_plain own {E = ℕ} 64 text (Ok n) h plain in
+    let p : (((all_ascii_digits text ≡ true) × (0 < length text) × (digits_value 10 text < 2 ^ 64)) × (n ≡ digits_value 10 text)) =
+    parse_plain own {E = ℕ} 64 text (Ok n) h plain in
     ap (within least most) p.1 ∙ sym (number_is least most text p.0.0 p.0.1 lead)
 
 none_of : (n : ℕ) (a b c d e : Bool) → (a ≡ true → b ≡ true → e ≡ true → ⊥) → None ≡ (if a && b && c then (if d && e then Some n else None) else None)

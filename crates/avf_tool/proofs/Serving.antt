@@ -21,19 +21,22 @@ module _ (asked : Option Job) (job : Job) (holds : List ℕ → Option (List ℕ
   fault_serves text due rise front =
       let P : Option Job → Type 0 = λ o. Comes o holds shelf out WriteFault in subst P (sym is) (text, due, rise, front)
 
-  comes_by : (cause : Cause) (r : Refusal) → Performed cause job (told_to job holds) shelf.before shelf.now r → TookNothing out → ComesBy cause job holds shelf out r
+  comes_by : (cause : Cause) (r : Refusal) → Performed cause job (told_to job holds) shelf.before shelf.now r → TookNothing out
+      → ComesBy cause job holds shelf out r
   comes_by ByContents r h none = (h, none)
   comes_by ByShelf r h none = (h, none)
   comes_by Free r h none = none
   comes_by ByWords r h none = h
   comes_by ByOut r h none = absurd h
 
-  refusal_comes : (r : Refusal) → Performed (cause_of r) job (told_to job holds) shelf.before shelf.now r → TookNothing out → Serves asked holds shelf out (Err r)
+  refusal_comes : (r : Refusal) → Performed (cause_of r) job (told_to job holds) shelf.before shelf.now r → TookNothing out
+      → Serves asked holds shelf out (Err r)
   refusal_comes r h none =
       let P : Option Job → Type 0 = λ o. Serves o holds shelf out (Err r) in subst P (sym is) (comes_by (cause_of r) r h none)
 
   -- it was refused
-  pub refusal_serves : (r : Refusal) (result : Result (Unit {0}) Refusal) → IsErrAnd result (λ e. e ≡ r) → Performed (cause_of r) job (told_to job holds) shelf.before shelf.now r → TookNothing out → Serves asked holds shelf out result
+  pub refusal_serves : (r : Refusal) (result : Result (Unit {0}) Refusal) → IsErrAnd result (λ e. e ≡ r)
+      → Performed (cause_of r) job (told_to job holds) shelf.before shelf.now r → TookNothing out → Serves asked holds shelf out result
   refusal_serves r (Ok done) e h none = absurd e
   refusal_serves r (Err other) e h none =
       let P : Refusal → Type 0 = λ x. Serves asked holds shelf out (Err x) in subst P (sym e) (refusal_comes r h none)

@@ -8,7 +8,8 @@ use Rattle.elf_load.specs.Image.{LoadedImage}
 use Rattle.rv_isa.specs.Effects.{retired_at}
 use Rattle.rv_isa.specs.Runs.{IsTrace, ProgramTrace, trace_at}
 use Rattle.run_record.specs.Run.{RecordedRun}
-use Rattle.avf_tool.specs.Programs.{IsProgram, instructions_of}
+use Rattle.run_log.specs.Answers.{IsProgram}
+use Rattle.avf_tool.specs.Programs.{instructions_of}
 
 some_end : (o : Option End) (end : End) → o ≡ Some end → o ≡ None → ⊥
 some_end o end e h = absurd cc
@@ -21,7 +22,8 @@ some_is : {A : Type 0} (x y : A) → Some x ≡ Some y → x ≡ y
 some_is x y e = cc
 
 -- a list by its elements
-map_range : {A : Type 0} (f : ℕ → A) (xs : List A) (from : ℕ) → ((i : ℕ) → i < length xs → slice_get xs i ≡ Some (f (from + i))) → map f (range_with_len from (length xs)) ≡ xs
+map_range : {A : Type 0} (f : ℕ → A) (xs : List A) (from : ℕ) → ((i : ℕ) → i < length xs → slice_get xs i ≡ Some (f (from + i)))
+    → map f (range_with_len from (length xs)) ≡ xs
 map_range f [] from h = refl
 map_range f (x ∷ xs) from h =
     let at : from + 0 ≡ from = omega arith in
@@ -31,7 +33,8 @@ map_range f (x ∷ xs) from h =
     rw (head, map_range f xs (from + 1) next) refl
 
 -- a run has one length
-one_length : (image : LoadedImage) (clocks : List ℕ) (k n : ℕ) (last end : End) → ((i : ℕ) → i < k → (trace_at image clocks i).stop ≡ None) → (trace_at image clocks k).stop ≡ Some last
+one_length : (image : LoadedImage) (clocks : List ℕ) (k n : ℕ) (last end : End) → ((i : ℕ) → i < k → (trace_at image clocks i).stop ≡ None)
+    → (trace_at image clocks k).stop ≡ Some last
     → ((i : ℕ) → i < n → (trace_at image clocks i).stop ≡ None) → (trace_at image clocks n).stop ≡ Some end → k ≡ n
 one_length image clocks k n last end running ends going over =
     elim (cases_order k n) [

@@ -90,7 +90,8 @@ pub record ByStatus (asked : Option Job) (holds : List ℕ → Option (List ℕ)
   pub due : (job : Job) (contents : List ℕ) → asked ≡ Some job → told_to job holds ≡ Some contents
       → (status ≡ status_due (answer job contents)) ⊎ ((status ≡ 3) ⊎ ((status ≡ 7) ⊎ (status ≡ 8)))
   -- the text is written, and at every status but 0 and 7 nothing
-  pub text : (job : Job) (contents text : List ℕ) → status ≡ 0 → asked ≡ Some job → told_to job holds ≡ Some contents → answer job contents ≡ Text text → Grows out.old out.new text
+  pub text : (job : Job) (contents text : List ℕ) → status ≡ 0 → asked ≡ Some job → told_to job holds ≡ Some contents → answer job contents ≡ Text text
+      → Grows out.old out.new text
   pub nothing : status ≢ 0 → status ≢ 7 → TookNothing out
   pub silent : status ≡ 0 → TookNothing err
   -- a command that meets no fault is answered by what is due, or by want of memory

@@ -1,6 +1,7 @@
 pub mod Answers
 pub mod Ends
 pub mod Jobs
+pub mod Law
 pub mod Numbers
 pub mod Programs
 pub mod Stages

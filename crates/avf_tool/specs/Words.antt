@@ -1,6 +1,6 @@
 -- Which words are which command.
-use Rattle.std.specs.Prelude.{◌≤◌, ℕ, List, [], ◌∷◌, length, Option, None, Some, String, string_bytes, map, codes, bytes_eq, nat_lt, ◌==◌, option_map, if◌then◌else◌}
-use Rattle.std.specs.Option.{option_and_then}
+use Rattle.std.specs.Prelude.{◌≤◌, ℕ, List, [], ◌∷◌, length, Option, None, Some, String, string_bytes, map, codes, bytes_eq, nat_lt, ◌==◌, if◌then◌else◌}
+use Rattle.std.specs.Option.{option_and_then, option_map}
 use Rattle.std.specs.declared.alloc.Global.{Global}
 use Rattle.bit_field.specs.Shapes.{IsShape, plain}
 use Rattle.bit_field.specs.declared.shapes.Shape.{Shape}

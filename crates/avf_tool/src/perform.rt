@@ -2,7 +2,7 @@
 ghost use Rattle.std.specs.Prelude.{◌≡◌, ◌≤◌, List, ℕ, length};
 ghost use Rattle.avf_tool.specs.Answers.{answer, task_answer};
 ghost use Rattle.avf_tool.specs.Jobs.{job_of};
-ghost use Rattle.avf_tool.specs.Programs.{IsProgram};
+ghost use Rattle.run_log.specs.Answers.{IsProgram};
 ghost use Rattle.avf_tool.specs.Stages.{Answers, IsDeadText, IsText};
 ghost use Rattle.avf_tool.specs.Words.{IsDoable, told_to};
 

@@ -4,7 +4,7 @@ ghost use Rattle.avf_base.specs.Refusals.{ByContents, cause_of};
 ghost use Rattle.avf_base.specs.declared.refusal.Refusal.TheVariants.{BadImage};
 ghost use Rattle.bit_field.specs.Shapes.{IsShape};
 ghost use Rattle.avf_tool.specs.Answers.{ram_size};
-ghost use Rattle.avf_tool.specs.Programs.{IsProgram};
+ghost use Rattle.run_log.specs.Answers.{IsProgram};
 ghost use Rattle.avf_tool.specs.Stages.{IsLoaded, IsRead, Ran, Traced};
 
 use avf_base::{ReadError, Refusal, Shelf, Steps, read_file};

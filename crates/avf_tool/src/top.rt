@@ -2,7 +2,7 @@
 ghost use Rattle.std.specs.Prelude.{◌≡◌, ◌⊎◌, List, ℕ, IfOk, string_bytes};
 ghost use Rattle.avf_base.specs.Refusals.{line_of};
 ghost use Rattle.avf_tool.specs.Ends.{ByStatus, Ends, MayTell, Serves, TookLine, faults_of, use_of};
-ghost use Rattle.avf_tool.specs.Programs.{ProgramLaw};
+ghost use Rattle.avf_tool.specs.Law.{ProgramLaw};
 ghost use Rattle.avf_tool.specs.Words.{command_of, texts};
 
 use crate::command::read_words;

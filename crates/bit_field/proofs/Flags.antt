@@ -7,7 +7,7 @@ use Rattle.bit_field.specs.Laws.{FlipLaws}
 use Rattle.bit_field.specs.Layouts.{number_of}
 use Rattle.bit_field.proofs.LayoutLaws.{number_of-same}
 
-number_of_is_bit : (b : Bool) → number_of b < 2
+pub number_of_is_bit : (b : Bool) → number_of b < 2
 number_of_is_bit true = omega arith
 number_of_is_bit false = omega arith
 

@@ -33,7 +33,8 @@ bit_nonzero m j one =
     ]
 
 -- all ones shifted right by the leading zeros has the bits up to the highest 1
-pub bit_at-below_highest : (m k : ℕ) → 0 < m → m < 2 ^ 32 → (bit_at ((2 ^ 32 - 1) / 2 ^ count_leading_zeros 32 m) k ≡ 1) ↔ ((j : ℕ) × (k ≤ j) × (bit_at m j ≡ 1))
+pub bit_at-below_highest : (m k : ℕ) → 0 < m → m < 2 ^ 32
+    → (bit_at ((2 ^ 32 - 1) / 2 ^ count_leading_zeros 32 m) k ≡ 1) ↔ ((j : ℕ) × (k ≤ j) × (bit_at m j ≡ 1))
 bit_at-below_highest m k pos h =
     let (j, top) = highest m pos h in
     let e : 32 - count_leading_zeros 32 m ≡ suc j = omega (arith, top.place) in

@@ -6,3 +6,4 @@ pub mod Highest
 pub mod LayoutLaws
 pub mod Located
 pub mod Low
+pub mod Slots

@@ -1,6 +1,6 @@
 -- Which of some fields holds a bit.
 use Rattle.std.proofs.Common.{◌≡◌, ℕ, zero, suc, ◌+◌, ◌-◌, ◌<◌, ◌≤◌, List, [], ◌∷◌, length, drop, get_or, refl, sym, ◌∙◌, ap, subst, arith, inl, inr}
-use Rattle.std.specs.Prelude.{Option, Some, None, slice_get}
+use Rattle.std.specs.Prelude.{Some, None, slice_get}
 use Rattle.std.proofs.lemmas.Option.{none-some, same_Some}
 use Rattle.std.proofs.lemmas.Bool.{cases_lt}
 use Rattle.std.proofs.lemmas.Bool.Decides.{nat_tests}
@@ -38,7 +38,8 @@ is_located width (f ∷ fs) k l =
     ]
 
 -- and each bit of a field is one of theirs
-pub bit_of_field : {F : Type 0} (width : F → ℕ) (fields : List F) (n : ℕ) (f : F) (i : ℕ) → slice_get fields n ≡ Some f → i < width f → (k : ℕ) × (k < bits_of width fields) × (located width fields k ≡ Some (f, i))
+pub bit_of_field : {F : Type 0} (width : F → ℕ) (fields : List F) (n : ℕ) (f : F) (i : ℕ) → slice_get fields n ≡ Some f → i < width f
+    → (k : ℕ) × (k < bits_of width fields) × (located width fields k ≡ Some (f, i))
 bit_of_field width [] n f i is l = absurd (none-some f is)
 bit_of_field width (g ∷ fs) zero f i is l =
     let e : g ≡ f = same_Some g f is in
@@ -55,13 +56,15 @@ pub record IsSearched {F : Type 0} (width : F → ℕ) (fields : List F) (k i pl
   pub same : located width fields k ≡ located width (drop i fields) place
   pub within : place < bits_of width (drop i fields)
 
-pub search-found : {F : Type 0} (width : F → ℕ) (fields : List F) (k i place : ℕ) (f : F) → i < length fields → f ≡ get_or fields i f → IsSearched width fields k i place → place < width f → located width fields k ≡ Some (f, place)
+pub search-found : {F : Type 0} (width : F → ℕ) (fields : List F) (k i place : ℕ) (f : F) → i < length fields → f ≡ get_or fields i f
+    → IsSearched width fields k i place → place < width f → located width fields k ≡ Some (f, place)
 search-found width fields k i place f l is h m =
     h.same
     ∙ ap (λ fs. located width fs place) (drop_more fields i f l ∙ ap (λ g. g ∷ drop (i + 1) fields) (sym is))
     ∙ located-here width f (drop (i + 1) fields) place m
 
-pub search-on : {F : Type 0} (width : F → ℕ) (fields : List F) (k i place : ℕ) (f : F) → i < length fields → f ≡ get_or fields i f → IsSearched width fields k i place → width f ≤ place → IsSearched width fields k (i + 1) (place - width f)
+pub search-on : {F : Type 0} (width : F → ℕ) (fields : List F) (k i place : ℕ) (f : F) → i < length fields → f ≡ get_or fields i f
+    → IsSearched width fields k i place → width f ≤ place → IsSearched width fields k (i + 1) (place - width f)
 search-on width fields k i place f l is h m =
     let left : drop i fields ≡ f ∷ drop (i + 1) fields = drop_more fields i f l ∙ ap (λ g. g ∷ drop (i + 1) fields) (sym is) in
     let within : place < width f + bits_of width (drop (i + 1) fields) = subst (λ fs. place < bits_of width fs) left h.within in

@@ -19,7 +19,9 @@ bit_at-shl_high n k i h = ap (λ m. bit_at m i) (omega arith) ∙ bit_at_cat_hig
 
 -- the same lowest n bits, the same remainder
 pub same_rest : (n a b : ℕ) → ((k : ℕ) → k < n → bit_at a k ≡ bit_at b k) → a % 2 ^ n ≡ b % 2 ^ n
-same_rest n a b same = same_from_bits_below n _ _ (mod_below a (2 ^ n) (pow_pos n)) (mod_below b (2 ^ n) (pow_pos n)) (λ i h. bit_at-mod a n i h ∙ same i h ∙ sym (bit_at-mod b n i h))
+same_rest n a b same =
+    same_from_bits_below n _ _ (mod_below a (2 ^ n) (pow_pos n)) (mod_below b (2 ^ n) (pow_pos n))
+    (λ i h. bit_at-mod a n i h ∙ same i h ∙ sym (bit_at-mod b n i h))
 
 pub same_bit : (n a b i : ℕ) → i < n → a % 2 ^ n ≡ b % 2 ^ n → bit_at a i ≡ bit_at b i
 same_bit n a b i h e = sym (bit_at-mod a n i h) ∙ ap (λ m. bit_at m i) e ∙ bit_at-mod b n i h

@@ -4,3 +4,4 @@ pub mod Laws
 pub mod Layouts
 pub mod Names
 pub mod Shapes
+pub mod Slots

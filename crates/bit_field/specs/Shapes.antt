@@ -5,7 +5,8 @@ use Rattle.bit_field.specs.declared.places.Structure.{Structure}
 use Rattle.bit_field.specs.declared.places.Structure.TheVariants.{Pc, Npc, Bht, Btb, Ib, IdEx, ExMem, MemWb, Rf, Sb, Port, CData, CTag, CValid, CDirty, CLru}
 use Rattle.bit_field.specs.declared.places.Place.{Place}
 use Rattle.bit_field.specs.declared.shapes.Shape.{Shape}
-use Rattle.bit_field.specs.declared.shapes.TheConstants.{COUNTER_BITS, BHT_BITS, BTB_BITS, IB_BITS, ID_EX_BITS, EX_MEM_BITS, MEM_WB_BITS, RF_BITS, SB_BITS, PORT_BITS}
+use Rattle.bit_field.specs.declared.shapes.TheConstants.{COUNTER_BITS, BHT_BITS, BTB_BITS, IB_BITS, ID_EX_BITS, EX_MEM_BITS, MEM_WB_BITS, RF_BITS}
+use Rattle.bit_field.specs.declared.shapes.TheConstants.{SB_BITS, PORT_BITS}
 
 -- a shape that the machine can have: its RAM in MiB, and the sets and ways of its data cache
 pub record IsShape (s : Shape) : Type 0 where

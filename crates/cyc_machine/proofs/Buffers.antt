@@ -43,6 +43,7 @@ length-kept image (Drains e way) es = length-younger es
 length-kept image _ es = length-chosen (is_stray image (oldest es)) es
 
 -- the stores that stay, packed
-pub pending-kept : (image : LoadedImage) (move : Move) (slots : List Entry) → pending (packed (kept_stores image move (pending slots))) ≡ kept_stores image move (pending slots)
+pub pending-kept : (image : LoadedImage) (move : Move) (slots : List Entry)
+    → pending (packed (kept_stores image move (pending slots))) ≡ kept_stores image move (pending slots)
 pending-kept image move slots =
     pending-packed (kept_stores image move (pending slots)) (All-kept image move (λ e. is_pending e ≡ true) (pending slots) (pending_used slots))

@@ -32,7 +32,8 @@ use Rattle.cyc_machine.proofs.Tells.{Tells, client-oldest, tells}
 
 -- ---- one cycle
 
-module _ (image : LoadedImage) (c : Contents) (memory : List ℕ) (m : Action) (number : ℕ) (load : Option ℕ) (store oldest : Option Entry) (is : IsImage image) (long : length memory ≡ length image.ram) (sized : IsSized c) where
+module _ (image : LoadedImage) (c : Contents) (memory : List ℕ) (m : Action) (number : ℕ) (load : Option ℕ) (store oldest : Option Entry)
+    (is : IsImage image) (long : length memory ≡ length image.ram) (sized : IsSized c) where
   slots-by : (v : Move) → Tells c load store v → ((e : Entry) → store ≡ Some e → oldest ≡ Some e)
       → slots (cache_after image v memory c)
       ≡ slots_by (event_by v m number c) c.shape (value_drained oldest) (ram_byte image (memory_after image v c memory)) (slots c)
@@ -41,13 +42,15 @@ module _ (image : LoadedImage) (c : Contents) (memory : List ℕ) (m : Action) (
   slots-by (Reads word way) t is_oldest = slots-after_read c (word / 4)
   slots-by (Drains e way) t is_oldest =
       slots-after_write c (e.addr / 4) (e.addr % 4) e.mask e.value way sized (omega arith) t.1
-      ∙ ap (λ (o : Option Entry). put_slot (set_of c.shape (e.addr / 4)) way (written_slot (e.addr % 4) e.mask (value_drained o) (slots c (set_of c.shape (e.addr / 4)) way)) (slots c)) (sym (is_oldest e t.0))
+      ∙ ap (λ (o : Option Entry). put_slot (set_of c.shape (e.addr / 4)) way
+      (written_slot (e.addr % 4) e.mask (value_drained o) (slots c (set_of c.shape (e.addr / 4)) way)) (slots c)) (sym (is_oldest e t.0))
   slots-by (Misses line way count owner) t is_oldest = refl
   slots-by Waits t is_oldest = refl
   slots-by Leaves t is_oldest = refl
   slots-by (Fills line way) t is_oldest =
       slots-after_refill image line memory c is long sized
-      ∙ ap (λ (ram : ℕ → ℕ). put_slot (set_of c.shape line) (way_for c line) (filled_slot c.shape ram line) (slots c)) (sym (ram-after_refill image line memory c is long sized))
+      ∙ ap (λ (ram : ℕ → ℕ). put_slot (set_of c.shape line) (way_for c line) (filled_slot c.shape ram line) (slots c))
+      (sym (ram-after_refill image line memory c is long sized))
       ∙ ap (λ w. put_slot (set_of c.shape line) w (filled_slot c.shape (ram_byte image (memory_refilled image line c memory)) line) (slots c)) (sym t.1)
 
   memory-by : (v : Move) → Tells c load store v
@@ -111,8 +114,12 @@ unfolding cycled
 event-law s is =
     let t = tells s.port s.cache (load_client s.image (action_in_m s) (pending s.stores)) (store_client s.image (pending s.stores)) in
     record {
-      event = some_by (IsEventOf s.cycle s.cache) (event_in s) (told s.image s.cache s.memory (action_in_m s) s.cycle _ _ (oldest (pending s.stores)) is.image is.memory is.cache (move s) t);
-      lines = slots-by s.image s.cache s.memory (action_in_m s) s.cycle _ _ (oldest (pending s.stores)) is.image is.memory is.cache (move s) t (client-oldest s.image (pending s.stores));
+      event =
+          some_by (IsEventOf s.cycle s.cache) (event_in s) (told s.image s.cache s.memory (action_in_m s) s.cycle _ _
+          (oldest (pending s.stores)) is.image is.memory is.cache (move s) t);
+      lines =
+          slots-by s.image s.cache s.memory (action_in_m s) s.cycle _ _ (oldest (pending s.stores)) is.image is.memory is.cache (move s) t
+          (client-oldest s.image (pending s.stores));
       memory = memory-by s.image s.cache s.memory (action_in_m s) s.cycle _ _ (oldest (pending s.stores)) is.image is.memory is.cache (move s) t;
     }
 
@@ -122,7 +129,8 @@ All-with_one : {A : Type 0} (P : A → Type 0) (xs : List A) (o : Option A) → 
 All-with_one P xs (Some x) all here = All-push P xs x all (here x refl)
 All-with_one P xs None all here = all
 
-pairs-with_one : {A : Type 0} (R : A → A → Type 0) (xs : List A) (o : Option A) → AllPairs R xs → ((x : A) → o ≡ Some x → All (λ y. R y x) xs) → AllPairs R (with_one xs o)
+pairs-with_one : {A : Type 0} (R : A → A → Type 0) (xs : List A) (o : Option A) → AllPairs R xs → ((x : A) → o ≡ Some x → All (λ y. R y x) xs)
+    → AllPairs R (with_one xs o)
 pairs-with_one R xs (Some x) pairs before = all_pairs_push R xs x pairs (before x refl)
 pairs-with_one R xs None pairs before = pairs
 
@@ -145,7 +153,9 @@ events-law (suc n) s is =
     record {
       rising = pairs-with_one (λ d e. d.cycle < e.cycle) (events_after n s) (event_in u) before.rising
           (λ e h k d l. let e1 = (law.event e h).cycle in let e2 = before.below k d l in omega (arith, e1, e2, number));
-      from = All-with_one (λ e. s.cycle ≤ e.cycle) (events_after n s) (event_in u) before.from (λ e h. let e1 = (law.event e h).cycle in omega (arith, e1, number));
+      from =
+          All-with_one (λ e. s.cycle ≤ e.cycle) (events_after n s) (event_in u) before.from
+          (λ e h. let e1 = (law.event e h).cycle in omega (arith, e1, number));
       below = All-with_one (λ e. e.cycle < s.cycle + suc n) (events_after n s) (event_in u) (λ k d l. let e2 = before.below k d l in omega (arith, e2))
           (λ e h. let e1 = (law.event e h).cycle in omega (arith, e1, number));
       lines = All-with_one (λ e. e.set ≡ set_of s.cache.shape e.line) (events_after n s) (event_in u) before.lines

@@ -36,7 +36,8 @@ flips_it CValid s k f l = cache_flips_it CValid s.cache k f.cache tt l
 flips_it CDirty s k f l = cache_flips_it CDirty s.cache k f.cache tt l
 flips_it CLru s k f l = cache_flips_it CLru s.cache k f.cache tt l
 
-flips_no_other : (a b : Structure) (s : State) (k j : ℕ) → IsMachine s → k < bits_in a s.cache.shape → j < bits_in b s.cache.shape → (a ≡ b → j ≢ k) → bit_in b (flip_in a s k) j ≡ bit_in b s j
+flips_no_other : (a b : Structure) (s : State) (k j : ℕ) → IsMachine s → k < bits_in a s.cache.shape → j < bits_in b s.cache.shape → (a ≡ b → j ≢ k)
+    → bit_in b (flip_in a s k) j ≡ bit_in b s j
 flips_no_other Pc Pc s k j f l m ne = registers.counter_laws.flips_no_other s.pc k j f.pc l m (ne refl)
 flips_no_other Npc Npc s k j f l m ne = registers.counter_laws.flips_no_other s.npc k j f.npc l m (ne refl)
 flips_no_other Bht Bht s k j f l m ne = history.laws.flips_no_other s.tables.history k j f.tables.history l m (ne refl)

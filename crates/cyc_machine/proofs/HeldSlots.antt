@@ -1,12 +1,13 @@
 -- What a slot holds, as the events tell it.
-use Rattle.std.proofs.Common.{◌≡◌, ℕ, zero, suc, ◌+◌, ◌*◌, ◌<◌, ◌/◌, ◌%◌, append-nil, Bool, true, false, cond, List, [], ◌∷◌, ◌++◌, arith, refl, ap, sym, subst, ◌∙◌}
+use Rattle.std.proofs.Common.{◌≡◌, ℕ, zero, suc, ◌+◌, ◌*◌, ◌<◌, ◌/◌, ◌%◌, append-nil, Bool, true, false, cond, List, [], ◌∷◌, ◌++◌, arith, refl, ap, sym}
+use Rattle.std.proofs.Common.{subst, ◌∙◌}
 use Rattle.std.specs.Prelude.{◌⊎◌, Option, Some, None, ◌==◌, ◌&&◌, if◌then◌else◌}
 use Rattle.std.specs.Option.{ForSome}
 use Rattle.std.proofs.lemmas.Bool.Decides.{nat_tests}
 use Rattle.std.proofs.lemmas.List.{get_or-replicate}
 use Rattle.bit_field.specs.Shapes.{IsShape, slots as slot_count}
 use Rattle.bit_field.specs.declared.shapes.Shape.{Shape}
-use Rattle.elf_load.specs.Image.{LoadedImage, IsImage, ram_byte}
+use Rattle.elf_load.specs.Image.{LoadedImage, ram_byte}
 use Rattle.store_buf.specs.Pending.{oldest, pending}
 use Rattle.wb_cache.specs.Access.{found}
 use Rattle.wb_cache.specs.Changes.{filled_slot, put_slot, set_at, way_at, written_slot}
@@ -17,16 +18,17 @@ use Rattle.wb_cache.specs.declared.event.EventKind.{EventKind}
 use Rattle.wb_cache.specs.declared.event.EventKind.TheVariants.{Read, Write, Miss, Fill}
 use Rattle.wb_cache.proofs.Find.{first_below-some}
 use Rattle.wb_cache.proofs.Lines.{line_from_parts}
-use Rattle.wb_cache.proofs.Sizes.{slot-split, slot_apart}
 use Rattle.wb_cache.proofs.Struck.{slot-at}
+use Rattle.wb_cache.proofs.Ways.{holds-tag, holds-valid}
 use Rattle.cyc_machine.specs.Cycle.{cycle, event_in}
-use Rattle.cyc_machine.specs.EventsLaw.{EventLaw, FindsBy, Held, IsEventOf, IsHeld, held_after, held_behind, held_by, HeldLaw, slots_by, slots_by_kind, value_drained}
+use Rattle.cyc_machine.specs.EventsLaw.{EventLaw, FindsBy, Held, IsEventOf, IsHeld, held_after, held_behind, held_by, HeldLaw, slots_by, slots_by_kind}
+use Rattle.cyc_machine.specs.EventsLaw.{value_drained}
 use Rattle.cyc_machine.specs.EventsLaw.Held.{Clean, Dirty, Vacant}
 use Rattle.cyc_machine.specs.Run.{events_after, events_below, state_after, state_at, with_one}
 use Rattle.cyc_machine.specs.Sizes.{IsSteady}
 use Rattle.cyc_machine.specs.State.{State, reset}
 use Rattle.cyc_machine.proofs.Events.{event-law}
-use Rattle.cyc_machine.proofs.RunsOn.{shape-kept, shape-next}
+use Rattle.cyc_machine.proofs.RunsOn.{reset-shape, shape-kept, shape-next}
 use Rattle.cyc_machine.proofs.Sizes.Lasting.{steady-after, steady-next, steady-reset}
 
 -- ---- one slot
@@ -51,12 +53,6 @@ held_is c l (Dirty line) h = h
 line-here : (shape : Shape) (set line tag : ℕ) → set ≡ set_of shape line → tag ≡ tag_of shape line → line ≡ line_of shape set tag
 line-here shape set line tag e f = line_from_parts shape.sets line set tag (sym e) (sym f)
 
-holds-valid : (shape : Shape) (line : ℕ) (slot : Slot) → holds shape line slot ≡ true → slot.valid ≡ true
-holds-valid shape line slot h = grind (arith, nat_tests)
-
-holds-tag : (shape : Shape) (line : ℕ) (slot : Slot) → holds shape line slot ≡ true → slot.tag ≡ tag_of shape line
-holds-tag shape line slot h = grind (arith, nat_tests)
-
 found-holds : (c : Contents) (line way : ℕ) → found c line ≡ Some way → holds c.shape line (slots c (set_of c.shape line) way) ≡ true
 unfolding way_of
 found-holds c line way h = (first_below-some c.shape.ways way (λ w. holds c.shape line (slots c (set_of c.shape line) w)) h).passes
@@ -67,7 +63,8 @@ place_by : (ways l set way : ℕ) → (ways ≡ 1) ⊎ (ways ≡ 2) ⊎ (ways �
 place_by ways l set way p h = grind (arith, nat_tests)
 
 -- slot l is the slot of a way of a set exactly where set and way are its own
-same-place : (shape : Shape) (l set way : ℕ) → IsShape shape → way < shape.ways → (set_at shape l == set && way_at shape l == way) ≡ (slot_of shape set way == l)
+same-place : (shape : Shape) (l set way : ℕ) → IsShape shape → way < shape.ways
+    → (set_at shape l == set && way_at shape l == way) ≡ (slot_of shape set way == l)
 same-place shape l set way is inside = place_by shape.ways l set way is.ways inside
 
 set-here : (l ways set : ℕ) (b : Bool) → (l / ways == set && b) ≡ true → l / ways ≡ set
@@ -88,7 +85,8 @@ module _ (c : Contents) (number value : ℕ) (ram : ℕ → ℕ) (l : ℕ) (size
 
   abbrev Told : CacheEvent → EventKind → Held → Type 0
   Told e kind h =
-      HoldsSo c.shape set (slots_by_kind kind e c.shape value ram (slots c) set (way_at c.shape l)) (if slot_of c.shape e.set e.way == l then held_by kind e.line h else h)
+      HoldsSo c.shape set (slots_by_kind kind e c.shape value ram (slots c) set (way_at c.shape l))
+      (if slot_of c.shape e.set e.way == l then held_by kind e.line h else h)
 
   -- where the slot is replaced
   replaced-by : (e : CacheEvent) → IsEventOf number c e → (X : Slot) (g h : Held) → (set ≡ set_of c.shape e.line → HoldsSo c.shape set X g)
@@ -108,7 +106,11 @@ module _ (c : Contents) (number value : ℕ) (ram : ℕ → ℕ) (l : ℕ) (size
   by-kind e is h before Write finds =
       let holding = subst (λ s. holds c.shape e.line (slots c s e.way) ≡ true) (sym is.set) (found-holds c e.line e.way finds) in
       replaced-by e is (written_slot e.word e.mask value (slots c e.set e.way)) (Dirty e.line) h
-      (λ here. (holds-valid c.shape e.line (slots c e.set e.way) holding, refl, line-here c.shape set e.line (slots c e.set e.way).tag here (holds-tag c.shape e.line (slots c e.set e.way) holding)))
+      (λ here. (
+        holds-valid c.shape e.line (slots c e.set e.way) holding,
+        refl,
+        line-here c.shape set e.line (slots c e.set e.way).tag here (holds-tag c.shape e.line (slots c e.set e.way) holding),
+      ))
       before
   by-kind e is h before Fill finds =
       replaced-by e is (filled_slot c.shape ram e.line) (Clean e.line) h
@@ -134,11 +136,13 @@ held-next s l h is below before =
     (subst (λ (slot : Slot). HoldsSo (cycle s).cache.shape (set_at (cycle s).cache.shape l) slot next)
     (slot-at (cycle s).cache l (steady-next s is).cache (subst (λ (sh : Shape). l < slot_count sh) (sym shape) below))
     (subst (λ (sh : Shape). HoldsSo sh (set_at sh l) (slots (cycle s).cache (set_at sh l) (way_at sh l)) next) (sym shape)
-    (subst (λ (cache : ℕ → ℕ → Slot). HoldsSo s.cache.shape (set_at s.cache.shape l) (cache (set_at s.cache.shape l) (way_at s.cache.shape l)) next) (sym law.lines)
+    (subst (λ (cache : ℕ → ℕ → Slot). HoldsSo s.cache.shape (set_at s.cache.shape l) (cache (set_at s.cache.shape l) (way_at s.cache.shape l)) next)
+    (sym law.lines)
     (by-event s.cache s.cycle (value_drained (oldest (pending s.stores))) (ram_byte (cycle s).image (cycle s).memory) l is.cache (event_in s) law.event h
     (subst (λ (slot : Slot). HoldsSo s.cache.shape (set_at s.cache.shape l) slot h) (sym (slot-at s.cache l is.cache below)) (held_is s.cache l h before))))))
 
-behind-append : (shape : Shape) (l : ℕ) (h : Held) (xs ys : List CacheEvent) → held_behind shape l h (xs ++ ys) ≡ held_behind shape l (held_behind shape l h xs) ys
+behind-append : (shape : Shape) (l : ℕ) (h : Held) (xs ys : List CacheEvent)
+    → held_behind shape l h (xs ++ ys) ≡ held_behind shape l (held_behind shape l h xs) ys
 unfolding held_behind
 behind-append shape l h [] ys = refl
 behind-append shape l h (e ∷ xs) ys = behind-append shape l (held_after shape l e h) xs ys
@@ -164,15 +168,12 @@ vacant-reset : (image : LoadedImage) (shape : Shape) (l : ℕ) → l < slot_coun
 unfolding reset slot_at empty
 vacant-reset image shape l below = get_or-replicate (slot_count shape) l false false below
 
-shape-reset : (image : LoadedImage) (shape : Shape) → (reset image shape).cache.shape ≡ shape
-unfolding reset empty
-shape-reset image shape = refl
-
 pub held-law : HeldLaw
 held-law = record {
   runs = held-on;
   reset = λ image shape t l is fits below.
-      let same : (reset image shape).cache.shape ≡ shape = shape-reset image shape in
+      let same : (reset image shape).cache.shape ≡ shape = reset-shape image shape in
       subst (λ (sh : Shape). IsHeld (state_at image shape t).cache l (held_behind sh l Vacant (events_below image shape t))) same
-      (held-on t (reset image shape) l Vacant (steady-reset image shape is fits) (subst (λ (sh : Shape). l < slot_count sh) (sym same) below) (vacant-reset image shape l below));
+      (held-on t (reset image shape) l Vacant (steady-reset image shape is fits) (subst (λ (sh : Shape). l < slot_count sh) (sym same) below)
+      (vacant-reset image shape l below));
 }

@@ -1,13 +1,20 @@
 -- Runs from any state go on from where they stand.
-use Rattle.std.proofs.Common.{◌≡◌, ◌≤◌, ◌<◌, ◌+◌, ◌-◌, ℕ, zero, suc, Bool, true, false, List, [], ◌∷◌, ◌++◌, arith, refl, ap, sym, ◌∙◌, subst, append_assoc, append-nil, inl, inr}
+use Rattle.std.proofs.Common.{subst, ◌≡◌, ◌≤◌, ◌<◌, ◌+◌, ◌-◌, ℕ, zero, suc, Bool, true, false, List, [], ◌∷◌, ◌++◌, arith, refl, ap, sym, ◌∙◌, append_assoc}
+use Rattle.std.proofs.Common.{append-nil, inl, inr}
 use Rattle.std.specs.Prelude.{◌⊎◌, Option, Some, None, if◌then◌else◌}
 use Rattle.avf_base.specs.declared.end.End.{End}
+use Rattle.bit_field.specs.Shapes.{IsPlaceIn}
+use Rattle.bit_field.specs.declared.places.Place.{Place}
+use Rattle.bit_field.specs.declared.shapes.Shape.{Shape}
+use Rattle.elf_load.specs.Image.{LoadedImage}
 use Rattle.rv_isa.specs.Instruction.{Log, logged}
-use Rattle.wb_cache.specs.declared.event.CacheEvent.{CacheEvent}
+use Rattle.wb_cache.specs.Contents.{empty}
 use Rattle.cyc_machine.specs.Cycle.{cycle, cycled, done_in, end_in, event_in, move, put_in, retires}
-use Rattle.cyc_machine.specs.Run.{EndsIn, RunsFor, clocks_after, cycle_if, events_after, issues, issues_after, issues_clock, log_after, output_after, retired_after, state_after, with_one}
+use Rattle.cyc_machine.specs.Run.{EndsIn, RunsFor, clocks_after, cycle_if, events_after, issues, issues_after, issues_clock, log_after, output_after}
+use Rattle.cyc_machine.specs.Run.{retired_after, state_after, state_at, with_one}
 use Rattle.cyc_machine.specs.RunsLaw.{RunsLaw}
-use Rattle.cyc_machine.specs.State.{State}
+use Rattle.cyc_machine.specs.State.{State, reset}
+use Rattle.cyc_machine.specs.Strikes.{InRange}
 use Rattle.cyc_machine.proofs.ShapeKept.{shape-moved}
 
 pub state-on : (j k n : ℕ) (s : State) → n ≡ j + k → state_after j (state_after k s) ≡ state_after n s
@@ -43,7 +50,8 @@ with_one-append xs ys (Some x) = append_assoc xs ys (x ∷ [])
 with_one-append xs ys None = refl
 
 -- the cycles from s on, by what each of them does
-module _ {A : Type 0} (one : State → Option A) (all : ℕ → State → List A) (none : (s : State) → all zero s ≡ []) (more : (n : ℕ) (s : State) → all (suc n) s ≡ with_one (all n s) (one (state_after n s))) where
+module _ {A : Type 0} (one : State → Option A) (all : ℕ → State → List A) (none : (s : State) → all zero s ≡ [])
+    (more : (n : ℕ) (s : State) → all (suc n) s ≡ with_one (all n s) (one (state_after n s))) where
   list-on : (j k n : ℕ) (s : State) → n ≡ j + k → all n s ≡ all k s ++ all j (state_after k s)
   list-on zero k n s e =
       let f : n ≡ k = omega (arith, e) in
@@ -84,7 +92,8 @@ retired-by (suc j) k n s e =
     let f : n ≡ suc (j + k) = omega (arith, e) in
     ap (λ m. retired_after m s) f
     ∙ ap (λ m. if retires (state_after (j + k) s) then m + 1 else m) (retired-by j k (j + k) s refl)
-    ∙ ap (λ u. if retires u then retired_after k s + retired_after j (state_after k s) + 1 else retired_after k s + retired_after j (state_after k s)) (sym (state-on j k (j + k) s refl))
+    ∙ ap (λ u. if retires u then retired_after k s + retired_after j (state_after k s) + 1 else retired_after k s + retired_after j (state_after k s))
+    (sym (state-on j k (j + k) s refl))
     ∙ counted_more (retires (state_after j (state_after k s))) (retired_after k s) (retired_after j (state_after k s))
 
 pub retired-on : (j k : ℕ) (s : State) → retired_after (j + k) s ≡ retired_after k s + retired_after j (state_after k s)
@@ -125,11 +134,32 @@ ended-on j k s end is = record {
   ends = ap end_in (state-on j k (j + k) s refl) ∙ is.ends;
 }
 
+-- ---- the run from reset
+
+reset-cycle : (image : LoadedImage) (shape : Shape) → (reset image shape).cycle ≡ 0
+unfolding reset
+reset-cycle image shape = refl
+
+reset-image : (image : LoadedImage) (shape : Shape) → (reset image shape).image ≡ image
+unfolding reset
+reset-image image shape = refl
+
+pub reset-shape : (image : LoadedImage) (shape : Shape) → (reset image shape).cache.shape ≡ shape
+unfolding reset empty
+reset-shape image shape = refl
+
+pub cycle-at : (image : LoadedImage) (shape : Shape) (t : ℕ) → (state_at image shape t).cycle ≡ t
+cycle-at image shape t = let e = numbered t (reset image shape) in let z = reset-cycle image shape in omega (arith, e, z)
+
+pub place-kept : (n : ℕ) (s : State) (p : Place) → InRange s p → InRange (state_after n s) p
+place-kept n s p h = subst (λ (shape : Shape). IsPlaceIn shape p) (sym (shape-kept n s)) h
+
 pub runs-law : RunsLaw
 runs-law = record {
   numbered = numbered;
   image = image-kept;
   shape = shape-kept;
+  place = place-kept;
   state = λ j k s. state-on j k (j + k) s refl;
   output = output-on;
   events = events-on;
@@ -139,4 +169,7 @@ runs-law = record {
   log = log-on;
   ends = ends-on;
   ended = ended-on;
+  cycle_at = cycle-at;
+  image_at = λ image shape t. image-kept t (reset image shape) ∙ reset-image image shape;
+  shape_at = λ image shape t. shape-kept t (reset image shape) ∙ reset-shape image shape;
 }

@@ -22,7 +22,8 @@ use Rattle.cyc_machine.specs.declared.memory_stage.Served.{Served}
 use Rattle.cyc_machine.specs.declared.fate.Fate.{Fate}
 use Rattle.cyc_machine.specs.declared.fate.Fate.TheVariants.{Goes}
 use Rattle.cyc_machine.specs.Memory.{cache_after, load_client, memory_after, move_of, port_after, result_after, served, store_client, stores_after, word_read}
-use Rattle.cyc_machine.specs.Pipeline.{decoded_after, entries_after, executed_after, fate_of, issued_after, lesson, npc_after, pc_after, trained_by, written_registers}
+use Rattle.cyc_machine.specs.Pipeline.{decoded_after, entries_after, executed_after, fate_of, issued_after, lesson, npc_after, pc_after, trained_by}
+use Rattle.cyc_machine.specs.Pipeline.{written_registers}
 use Rattle.cyc_machine.specs.State.{State}
 
 -- what M does in this cycle

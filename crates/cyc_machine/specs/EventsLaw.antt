@@ -1,6 +1,6 @@
 -- What the events of the cache tell: the cycles and the slots that they name, what each of them does to its slot, and that nothing
 -- else changes a slot.
-use Rattle.std.specs.Prelude.{◌≡◌, ◌≤◌, ◌<◌, ◌+◌, ◌/◌, ◌%◌, ◌==◌, ℕ, Bool, true, false, List, [], ◌∷◌, Option, Some, None, All, AllPairs, if◌then◌else◌, nat_lt, filter}
+use Rattle.std.specs.Prelude.{◌≡◌, ◌≤◌, ◌<◌, ◌+◌, ◌==◌, ℕ, true, false, List, [], ◌∷◌, Option, Some, None, All, AllPairs, if◌then◌else◌}
 use Rattle.std.specs.Option.{ForSome}
 use Rattle.bit_field.specs.declared.shapes.Shape.{Shape}
 use Rattle.bit_field.specs.Shapes.{IsShape, slots as slot_count}
@@ -10,12 +10,12 @@ use Rattle.store_buf.specs.Pending.{oldest, pending}
 use Rattle.wb_cache.specs.Access.{found}
 use Rattle.wb_cache.specs.Changes.{filled_slot, put_slot, set_at, slot_written_back, written_slot}
 use Rattle.wb_cache.specs.Contents.{Contents, Slot, slot_at, slot_of, slots}
-use Rattle.wb_cache.specs.Lookup.{holds, line_of, set_of, tag_of}
+use Rattle.wb_cache.specs.Lookup.{line_of, set_of}
 use Rattle.wb_cache.specs.Refill.{way_for}
 use Rattle.wb_cache.specs.declared.event.CacheEvent.{CacheEvent}
 use Rattle.wb_cache.specs.declared.event.EventKind.{EventKind}
 use Rattle.wb_cache.specs.declared.event.EventKind.TheVariants.{Read, Write, Miss, Fill}
-use Rattle.cyc_machine.specs.Cycle.{cycle, event_in}
+use Rattle.cyc_machine.specs.Cycle.{event_in}
 use Rattle.cyc_machine.specs.Run.{events_after, state_after, state_at, events_below}
 use Rattle.cyc_machine.specs.Sizes.{IsSteady}
 use Rattle.cyc_machine.specs.State.{State}
@@ -67,7 +67,8 @@ pub record IsEventOf (number : ℕ) (c : Contents) (e : CacheEvent) : Type 0 whe
 
 pub record EventLaw (s next : State) : Type 0 where
   pub event : ForSome (event_in s) (IsEventOf s.cycle s.cache)
-  pub lines : slots next.cache ≡ slots_by (event_in s) s.cache.shape (value_drained (oldest (pending s.stores))) (ram_byte next.image next.memory) (slots s.cache)
+  pub lines : slots next.cache ≡ slots_by (event_in s) s.cache.shape (value_drained (oldest (pending s.stores))) (ram_byte next.image next.memory)
+      (slots s.cache)
   pub memory : ram_byte next.image next.memory ≡ memory_by (event_in s) s.image s.cache.shape (slots s.cache) (ram_byte s.image s.memory)
 
 -- Many cycles.

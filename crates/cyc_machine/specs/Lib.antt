@@ -14,6 +14,7 @@ pub mod Reports
 pub mod Run
 pub mod RunsLaw
 pub mod Sizes
+pub mod SizesLaw
 pub mod State
 pub mod Strikes
 pub mod Turn

@@ -1,5 +1,6 @@
 -- The memory side of one cycle: who asks for the cache, what the port does, and whether the memory stage is done.
-use Rattle.std.specs.Prelude.{◌≡◌, ◌<◌, ◌^◌, ⊤, ℕ, ◌/◌, ◌%◌, ◌==◌, ◌&&◌, Bool, true, false, not, nat_lt, if◌then◌else◌, List, [], ◌∷◌, ◌++◌, length, Option, Some, None, pred}
+use Rattle.std.specs.Prelude.{◌≡◌, ◌<◌, ◌^◌, ⊤, ℕ, ◌/◌, ◌%◌, ◌==◌, ◌&&◌, Bool, true, false, not, nat_lt, if◌then◌else◌, List, [], ◌∷◌, ◌++◌, length}
+use Rattle.std.specs.Prelude.{Option, Some, None, pred}
 use Rattle.elf_load.specs.Image.{LoadedImage, word_in_ram}
 use Rattle.rv_table.specs.Accesses.{byte_of, lane_mask, load_size, loaded, store_size, store_word}
 use Rattle.rv_table.specs.Effects.{written_register}
@@ -11,6 +12,7 @@ use Rattle.pipe_latch.specs.Latches.{ResultLatch, no_result}
 use Rattle.store_buf.specs.Entry.{Entry}
 use Rattle.store_buf.specs.Pending.{oldest, younger}
 use Rattle.store_buf.specs.Covers.{covered}
+use Rattle.store_buf.specs.declared.buffer.TheConstants.{SLOTS}
 use Rattle.store_buf.specs.declared.cover.Cover.{Cover}
 use Rattle.store_buf.specs.declared.cover.Cover.TheVariants.{Full, Part, None as Uncovered}
 use Rattle.cyc_machine.specs.PortState.{PortState}
@@ -140,7 +142,7 @@ load_value image kind x stores read =
 
 -- a store is done where there is room for it, or at once outside RAM, where it is dropped
 abbrev pub has_room : LoadedImage → ℕ → List Entry → Bool
-has_room image word stores = if word_in_ram image word then nat_lt (length stores) 4 else true
+has_room image word stores = if word_in_ram image word then nat_lt (length stores) SLOTS else true
 
 -- whether M leaves, and the value for its register
 unfoldable pub served : LoadedImage → Action → List Entry → Option ℕ → Served
@@ -170,13 +172,13 @@ kept_stores image _ stores = without_stray image stores
 abbrev pub entry_of : StoreKind → ℕ → ℕ → Entry
 entry_of kind x y = record { mask = lane_mask (store_size kind) x; addr = x / 4; value = store_word kind x y }
 
--- The pending store that M's done store in RAM becomes. `room` says that fewer than four were pending before the cycle.
+-- The pending store that M's done store in RAM becomes. `room` says that a slot was free before the cycle.
 unfoldable pub appended : LoadedImage → Action → Bool → List Entry
 appended image (Stores kind x y) room = if room && word_in_ram image (x / 4) then entry_of kind x y ∷ [] else []
 appended image _ room = []
 
 unfoldable pub stores_after : LoadedImage → Action → Move → List Entry → List Entry
-stores_after image m move stores = kept_stores image move stores ++ appended image m (nat_lt (length stores) 4)
+stores_after image m move stores = kept_stores image move stores ++ appended image m (nat_lt (length stores) SLOTS)
 
 -- What holds of a move.
 

@@ -1,5 +1,6 @@
 -- The pipeline in one cycle: what becomes of ID/EX, and the next value of each part by one equation over the old state.
-use Rattle.std.specs.Prelude.{ℕ, ◌-◌, ◌==◌, ◌&&◌, Bool, true, false, nat_lt, if◌then◌else◌, List, [], ◌∷◌, ◌++◌, length, Option, Some, None, pred, drop, slice_get, slice_index, slice_set}
+use Rattle.std.specs.Prelude.{ℕ, ◌-◌, ◌==◌, ◌&&◌, Bool, true, false, nat_lt, if◌then◌else◌, List, [], ◌∷◌, ◌++◌, length, Option, Some, None, pred, drop}
+use Rattle.std.specs.Prelude.{slice_get, slice_index, slice_set}
 use Rattle.elf_load.specs.Image.{LoadedImage, fetch}
 use Rattle.rv_table.specs.Actions.{is_counter, with_counter}
 use Rattle.rv_table.specs.Operations.{delay_of}
@@ -15,6 +16,7 @@ use Rattle.pipe_latch.specs.declared.forward.Forwarded.TheVariants.{Value, Wait}
 use Rattle.rv_isa.specs.Instruction.{next_count}
 use Rattle.predictor.specs.Tables.{Tables, trained}
 use Rattle.inst_buf.specs.Entry.{Entry}
+use Rattle.inst_buf.specs.declared.buffer.TheConstants.{SLOTS}
 use Rattle.cyc_machine.specs.declared.fate.Fate.{Fate}
 use Rattle.cyc_machine.specs.declared.fate.Fate.TheVariants.{Absent, Dropped, Stays, Goes}
 
@@ -122,9 +124,9 @@ entry_of_word pc None = record { valid = true; fault = true; pc = pc; word = 0 }
 abbrev pub fetched : LoadedImage → ℕ → Entry
 fetched image pc = entry_of_word pc (fetch image pc)
 
--- the entries after fetching one more where fewer than four remain
+-- the entries after fetching one more where a slot is free
 abbrev pub filled : LoadedImage → ℕ → List Entry → List Entry
-filled image pc entries = if nat_lt (length entries) 4 then entries ++ fetched image pc ∷ [] else entries
+filled image pc entries = if nat_lt (length entries) SLOTS then entries ++ fetched image pc ∷ [] else entries
 
 unfoldable pub entries_after : LoadedImage → Fate → ℕ → List Entry → List Entry
 entries_after image Dropped pc entries = []
@@ -132,9 +134,9 @@ entries_after image Absent pc entries = filled image pc (drop 1 entries)
 entries_after image Stays pc entries = filled image pc entries
 entries_after image (Goes a b) pc entries = filled image pc (drop 1 entries)
 
--- fetching goes on at the predicted address where fewer than four entries remain
+-- fetching goes on at the predicted address where a slot is free
 abbrev pub if_room : ℕ → ℕ → ℕ → ℕ
-if_room remaining predicted pc = if nat_lt remaining 4 then predicted else pc
+if_room remaining predicted pc = if nat_lt remaining SLOTS then predicted else pc
 
 unfoldable pub pc_after : Fate → ℕ → List Entry → ℕ → ℕ → ℕ
 pc_after Dropped predicted entries npc pc = npc

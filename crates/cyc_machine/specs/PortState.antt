@@ -1,7 +1,6 @@
 -- What the port of the cache holds.
 use Rattle.std.specs.Prelude.{ℕ, Bool}
 
--- how many cycles the client must still wait, and whether it is the store client
 pub record PortState : Type 0 where
-  pub count : ℕ
-  pub owner : Bool
+  pub count : ℕ  -- how many cycles its client must still wait
+  pub owner : Bool  -- whether that is the store client

@@ -5,22 +5,25 @@ use Rattle.elf_load.specs.Image.{LoadedImage}
 use Rattle.bit_field.specs.declared.shapes.Shape.{Shape}
 use Rattle.pipe_latch.specs.Latches.{DecodedLatch, ExecutedLatch, ResultLatch, no_decoded, no_executed, no_result}
 use Rattle.inst_buf.specs.Entry.{Entry as Fetched, no_entry as no_fetched}
+use Rattle.inst_buf.specs.declared.buffer.TheConstants.{SLOTS as BUFFER_SLOTS}
 use Rattle.predictor.specs.Tables.{Tables, fresh_tables}
 use Rattle.store_buf.specs.Entry.{Entry as Pending, no_entry as no_pending}
+use Rattle.store_buf.specs.declared.buffer.TheConstants.{SLOTS as STORE_SLOTS}
 use Rattle.wb_cache.specs.Contents.{Contents, empty as empty_cache}
 use Rattle.cyc_machine.specs.PortState.{PortState}
+use Rattle.cyc_machine.specs.declared.registers.TheConstants.{REGISTERS}
 
 pub record State : Type 0 where
   pub image : LoadedImage
   pub pc : ℕ  -- word address that is fetched next
   pub npc : ℕ  -- word address of the instruction after the last one that left EX
   pub tables : Tables  -- the predictor's
-  pub buffer : List Fetched  -- the four slots of the instruction buffer
+  pub buffer : List Fetched  -- the slots of the instruction buffer
   pub d : DecodedLatch  -- the latch ID/EX
   pub m : ExecutedLatch  -- the latch EX/MEM
   pub w : ResultLatch  -- the latch MEM/WB
   pub registers : List ℕ  -- registers 1 to 31
-  pub stores : List Pending  -- the four slots of the store buffer
+  pub stores : List Pending  -- the slots of the store buffer
   pub port : PortState  -- the latch of the cache's port
   pub cache : Contents  -- the lines, and which way of a set is replaced next
   pub memory : List ℕ  -- main memory, from the image's base on
@@ -36,12 +39,12 @@ reset image shape =
       pc = image.entry / 4;
       npc = image.entry / 4;
       tables = fresh_tables;
-      buffer = replicate 4 no_fetched;
+      buffer = replicate BUFFER_SLOTS no_fetched;
       d = no_decoded;
       m = no_executed;
       w = no_result;
-      registers = replicate 31 0;
-      stores = replicate 4 no_pending;
+      registers = replicate REGISTERS 0;
+      stores = replicate STORE_SLOTS no_pending;
       port = record { count = 0; owner = false };
       cache = empty_cache shape;
       memory = image.ram;

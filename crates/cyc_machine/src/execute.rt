@@ -2,14 +2,13 @@
 ghost use Rattle.std.specs.Prelude.{◌≡◌, ◌<◌, ◌^◌, ℕ, Bool};
 ghost use Rattle.std.specs.Option.{ForSome};
 ghost use Rattle.pipe_latch.specs.LatchedActions.{action_of};
-ghost use Rattle.pipe_latch.specs.Latches.{op_of_latch};
 ghost use Rattle.cyc_machine.specs.Pipeline as pipeline;
 
 use crate::fate::Fate;
 use elf_load::Image;
 use pipe_latch::{ExMem, Executed, Forwarded, IdEx, MemWb, execute, late, operand};
 use predictor::Predictor;
-use rv_table::{Op, is_counter, with_counter};
+use rv_table::{is_counter, with_counter};
 
 // What becomes of ID/EX. `mem_goes` says whether EX/MEM leaves in this cycle.
 #[tactic(auto, unfolding(crate::specs::Pipeline::fate_of))]
@@ -44,23 +43,10 @@ fn goes_with(a: Forwarded, b: Forwarded) -> Fate
 fn operand_b(d: &IdEx, m: &ExMem, w: &MemWb) -> Forwarded
     ensures { result ≡ pipeline.operand_b d.now (action_of m.now) w.now }
 {
-    if is_counter(&op_of(d)) {
+    if is_counter(&d.instruction()) {
         Forwarded::Value(0)
     } else {
         operand(d.rs2, d.b, m, w)
-    }
-}
-
-// The instruction in ID/EX.
-fn op_of(d: &IdEx) -> Op
-    ensures { result ≡ op_of_latch d.now }
-{
-    Op {
-        code: d.op,
-        rd: d.rd,
-        rs1: d.rs1,
-        rs2: d.rs2,
-        imm: d.imm,
     }
 }
 
@@ -101,7 +87,7 @@ pub fn leave_execution(
 {
     match fate {
         Fate::Goes { a, b } => {
-            let b = with_counter(&op_of(d), now.cycle, now.issued, *b);
+            let b = with_counter(&d.instruction(), now.cycle, now.issued, *b);
             let Executed { latch, next, learn } = execute(d, *a, b, image);
             Issue {
                 executed: latch,

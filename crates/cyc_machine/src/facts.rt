@@ -1,4 +1,4 @@
-// What holds of every machine.
+// What holds of every machine, and the laws of its cycles, runs and strikes, as contracts of calls that do nothing.
 
 ghost use Rattle.std.specs.Prelude.{ℕ};
 ghost use Rattle.cyc_machine.specs.Cycle.{cycle};
@@ -6,6 +6,7 @@ ghost use Rattle.cyc_machine.specs.EventsLaw.{EventLaw, EventsLaw, HeldLaw};
 ghost use Rattle.cyc_machine.specs.FlipLaw.{FlipsBack, FlipsNoOther, FlipsThatBit};
 ghost use Rattle.cyc_machine.specs.RunsLaw.{RunsLaw};
 ghost use Rattle.cyc_machine.specs.Sizes.{IsSteady};
+ghost use Rattle.cyc_machine.specs.SizesLaw.{SizesLaw};
 ghost use Rattle.cyc_machine.specs.State.{State};
 
 use crate::machine::Machine;
@@ -55,4 +56,10 @@ pub fn events_law()
     ensures cycle { (s : State) → IsSteady s → EventLaw s (cycle s) }
     ensures runs { (n : ℕ) (s : State) → IsSteady s → EventsLaw n s }
     ensures held { HeldLaw }
+{}
+
+/// Changes nothing; its contract is the law of the machine's sizes: every cycle keeps them, from every state that has them, and
+/// a strike keeps what holds of every machine.
+pub fn sizes_law()
+    ensures { SizesLaw }
 {}

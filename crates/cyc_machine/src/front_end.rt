@@ -6,7 +6,7 @@ ghost use Rattle.cyc_machine.specs.Pipeline as pipeline;
 use crate::fate::Fate;
 use crate::registers::RegisterFile;
 use elf_load::Image;
-use inst_buf::{InstBuf, Slot};
+use inst_buf::{InstBuf, SLOTS, Slot};
 use pipe_latch::{IdEx, MemWb, late};
 use rv_table::{FETCH_FAULT_CODE, Op, decode, delay_of};
 
@@ -122,7 +122,7 @@ fn fill(buffer: &mut InstBuf, image: &Image, pc: u32)
     requires { pc < 2 ^ 30 }
     ensures { buffer.new ≡ packed (pipeline.filled image.now pc (entries buffer.old)) }
 {
-    if buffer.len() < 4 {
+    if buffer.len() < SLOTS as u32 {
         buffer.push(fetched(image, pc));
     } else {
         buffer.ripple();
@@ -170,5 +170,9 @@ fn if_room(remaining: u32, predicted: u32, pc: u32) -> u32
     ensures next { result ≡ pipeline.if_room remaining predicted pc }
     ensures within { predicted < 2 ^ 30 → pc < 2 ^ 30 → result < 2 ^ 30 }
 {
-    if remaining < 4 { predicted } else { pc }
+    if remaining < SLOTS as u32 {
+        predicted
+    } else {
+        pc
+    }
 }

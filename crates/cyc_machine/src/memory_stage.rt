@@ -3,6 +3,7 @@ ghost use Rattle.std.specs.Prelude.{◌≡◌, ◌≤◌, ◌<◌, ◌^◌, ◌/
 ghost use Rattle.std.specs.Option.{ForSome};
 ghost use Rattle.elf_load.specs.Image.{IsImage};
 ghost use Rattle.store_buf.specs.Pending.{pending, packed};
+ghost use Rattle.store_buf.specs.declared.buffer.TheConstants.{SLOTS};
 ghost use Rattle.rv_table.specs.Effects.{written_register};
 ghost use Rattle.wb_cache.specs.Access.{found};
 ghost use Rattle.cyc_machine.specs.Memory as memory_side;
@@ -11,7 +12,7 @@ use crate::port::{Move, PortLatch};
 use elf_load::Image;
 use pipe_latch::MemWb;
 use rv_table::{Action, LoadKind, StoreKind, loaded, store_word};
-use store_buf::{Cover, Pending, StoreBuf};
+use store_buf::{Cover, Pending, SLOTS, StoreBuf};
 use wb_cache::Cache;
 
 /// How many cycles a miss waits for its line.
@@ -259,7 +260,7 @@ fn has_room(image: &Image, word: u32, stores: &StoreBuf) -> bool
     ensures { result ≡ memory_side.has_room image.now word (pending stores.now) }
 {
     if image.word_in_ram(word) {
-        stores.len() < 4
+        stores.len() < SLOTS as u32
     } else {
         true
     }
@@ -310,7 +311,7 @@ pub fn result_after(action: &Action, served: &Served) -> MemWb
 pub fn update_stores(stores: &mut StoreBuf, image: &Image, action: &Action, motion: &Move)
     ensures { stores.new ≡ packed (memory_side.stores_after image.now action.now motion.now (pending stores.old)) }
 {
-    let room = stores.len() < 4;
+    let room = stores.len() < SLOTS as u32;
     leave(stores, image, motion);
     append(stores, image, action, room);
 }
@@ -360,7 +361,7 @@ fn is_stray(oldest: Option<Pending>, image: &Image) -> bool
 // M's done store in RAM becomes the youngest pending store.
 #[tactic(auto, unfolding(crate::specs::Memory::appended))]
 fn append(stores: &mut StoreBuf, image: &Image, action: &Action, room: bool)
-    requires { room ≡ true → length (pending stores.old) < 4 }
+    requires { room ≡ true → length (pending stores.old) < SLOTS }
     ensures { stores.new ≡ packed (pending stores.old ++ memory_side.appended image.now action.now room) }
 {
     match action {

@@ -5,7 +5,8 @@ ghost use Rattle.std.specs.Prelude.{◌≡◌, ◌<◌};
 
 use super::*;
 use avf_base::{End, Steps, counter};
-use bit_field::{Place, Structure};
+use bit_field::{PORT_BITS, Place, Structure};
+use elf_fixture::THREE;
 use elf_load::{Image, load};
 use std::alloc::Global;
 use std::fs::Files;
@@ -14,56 +15,10 @@ use std::process::Abort;
 use std::sync::ledger::{Blank, Ledger};
 use std::test::Fail;
 
-// The ELF32 header and one program header: an executable for RISC-V with one executable segment at 0x10000, which stands
-// at offset 84 and is entered at its start. The segment's two sizes, at bytes 68 and 72, are left 0.
-const HEADERS: [u32; 21] = [
-    0x464C_457F,
-    0x0001_0101,
-    0,
-    0,
-    0x00F3_0002,
-    1,
-    0x1_0000,
-    52,
-    0,
-    0,
-    0x0020_0034,
-    1,
-    0,
-    1,
-    84,
-    0x1_0000,
-    0x1_0000,
-    0,
-    0,
-    5,
-    4,
-];
-
-fn push_word(file: &mut Vec<u8>, word: u32) -> Result<(), Fail> {
-    file.extend_from_slice(&word.to_le_bytes())?;
-    Ok(())
-}
-
-// An image that is these words, in one executable segment.
+// The image of these words, one executable segment at 0x10000, in a RAM of 1 MiB.
 fn flat(alloc: Global, words: &[u32]) -> Result<Image, Fail> {
-    let mut file = Vec::new(alloc);
-    for (place, word) in HEADERS.iter().enumerate() {
-        let size = if place == 17 || place == 18 {
-            words.len().wrapping_mul(4) % 65_536
-        } else {
-            0
-        };
-        push_word(&mut file, *word | size as u32)?;
-    }
-    for word in words {
-        push_word(&mut file, *word)?;
-    }
-    Ok(load(alloc, &file, 0x10_0000)?)
+    Ok(load(alloc, &elf_fixture::flat(alloc, words)?, 0x10_0000)?)
 }
-
-// addi a0, zero, 7; addi a7, zero, 93; ecall
-const THREE: [u32; 3] = [0x0070_0513, 0x05D0_0893, 0x0000_0073];
 
 fn step<L: Ledger>(
     rt: &impl Abort,
@@ -164,4 +119,16 @@ fn flips_at_the_corners(rt: HostRuntime) -> Result<(), Fail> {
         check_place(&rt, &mut machine, structure, bits);
     }
     Ok(())
+}
+
+#[test]
+fn the_port_is_a_row_of_fields(rt: HostRuntime) {
+    for (field, first, last) in [(PortField::Count, 0, 4), (PortField::Owner, 5, 5)] {
+        assert!(rt; first <= last && last < PORT_BITS);
+        assert!(rt; PortLatch::field_at(first) == (field, 0), "bit {first}");
+        assert!(rt;
+            PortLatch::field_at(last) == (field, last - first),
+            "bit {last}"
+        );
+    }
 }

@@ -1,5 +1,6 @@
 -- What holds of segments whose layout is accepted.
-use Rattle.std.proofs.Common.{◌≡◌, ◌≢◌, ℕ, zero, suc, ◌+◌, ◌/◌, ◌%◌, ◌^◌, ◌<◌, ◌≤◌, Bool, true, false, cond, leb, eqb, List, [], ◌∷◌, length, map, slice_index, Option, Some, None, is_none, IsSome, refl, ap, sym, subst, ◌∙◌, rules, arith}
+use Rattle.std.proofs.Common.{◌≡◌, ◌≢◌, ℕ, zero, suc, ◌+◌, ◌/◌, ◌%◌, ◌^◌, ◌<◌, ◌≤◌, Bool, true, false, cond, leb, eqb, List, [], ◌∷◌, length, map}
+use Rattle.std.proofs.Common.{slice_index, Option, Some, None, is_none, IsSome, refl, ap, sym, subst, ◌∙◌, rules, arith}
 use Rattle.std.specs.List.{list_any, range_with_len, All}
 use Rattle.std.proofs.lemmas.Bool.{or_parts, ltb-false, leb-false, eqb-true, eqb-false, not-false}
 use Rattle.std.proofs.lemmas.List.{length-map}
@@ -18,7 +19,8 @@ first_no : (b : Bool) (k : ℕ) (rest : Option ℕ) → cond b (Some k) rest ≡
 first_no true k rest e = absurd (cc)
 first_no false k rest e = (refl, e)
 
-layout_accepted : (xs : List LoadSegment) (entry size : ℕ) → layout_refusal xs entry size ≡ None → (has_bad_layout xs size ≡ false) × (has_bad_entry xs entry size ≡ false)
+layout_accepted : (xs : List LoadSegment) (entry size : ℕ) → layout_refusal xs entry size ≡ None
+    → (has_bad_layout xs size ≡ false) × (has_bad_entry xs entry size ≡ false)
 unfolding layout_refusal
 layout_accepted xs entry size h =
     let first = first_no (has_bad_layout xs size) 11 _ h in
@@ -40,14 +42,16 @@ not_above limit [] e k d p = absurd (omega arith)
 not_above limit (s ∷ rest) e zero d p = ltb-false _ _ (or_parts _ _ e).0
 not_above limit (s ∷ rest) e (suc k) d p = not_above limit rest (or_parts _ _ e).1 k d (omega arith)
 
-layout_parts : (xs : List LoadSegment) (size : ℕ) → has_bad_layout xs size ≡ false → (leb (2 ^ 32) (base_of xs + size) ≡ false) × (list_any (ends_above (base_of xs + size)) xs ≡ false)
+layout_parts : (xs : List LoadSegment) (size : ℕ) → has_bad_layout xs size ≡ false
+    → (leb (2 ^ 32) (base_of xs + size) ≡ false) × (list_any (ends_above (base_of xs + size)) xs ≡ false)
 unfolding has_bad_layout
 layout_parts xs size h =
     let most = or_parts _ _ h in
     let ends = or_parts _ _ most.0 in
     ((or_parts _ _ ends.0).1, ends.1)
 
-pub accepted-FitRam : (xs : List LoadSegment) (entry size base : ℕ) → base ≡ base_of xs → AreApart xs → All (λ s. length s.bytes ≤ s.memsz) xs → layout_refusal xs entry size ≡ None → FitRam xs base size
+pub accepted-FitRam : (xs : List LoadSegment) (entry size base : ℕ) → base ≡ base_of xs → AreApart xs → All (λ s. length s.bytes ≤ s.memsz) xs
+    → layout_refusal xs entry size ≡ None → FitRam xs base size
 accepted-FitRam xs entry size base b o l h =
     let inside : All (λ s. s.vaddr + s.memsz ≤ base_of xs + size) xs =
     not_above (base_of xs + size) xs (layout_parts xs size (layout_accepted xs entry size h).0).1 in
@@ -58,7 +62,8 @@ accepted-FitRam xs entry size base b o l h =
       bytes = l;
     }
 
-entry_accepted : (xs : List LoadSegment) (entry size : ℕ) → has_bad_entry xs entry size ≡ false → (entry % 4 ≡ 0) × IsSome (fetch (image_in xs entry size) (entry / 4))
+entry_accepted : (xs : List LoadSegment) (entry size : ℕ) → has_bad_entry xs entry size ≡ false
+    → (entry % 4 ≡ 0) × IsSome (fetch (image_in xs entry size) (entry / 4))
 unfolding has_bad_entry
 entry_accepted xs entry size h =
     let parts = or_parts _ _ h in
@@ -68,7 +73,8 @@ entry_accepted xs entry size h =
     is_there None e = absurd (cc)
     is_there (Some w) e = search rules
 
-pub accepted-IsImage : (xs : List LoadSegment) (entry size : ℕ) → IsRamSize size → layout_refusal xs entry size ≡ None → ((k : ℕ) → slice_index (map (byte_in xs) (range_with_len (base_of xs) size)) k < 256) → IsImage (image_in xs entry size)
+pub accepted-IsImage : (xs : List LoadSegment) (entry size : ℕ) → IsRamSize size → layout_refusal xs entry size ≡ None
+    → ((k : ℕ) → slice_index (map (byte_in xs) (range_with_len (base_of xs) size)) k < 256) → IsImage (image_in xs entry size)
 unfolding image_in base_of
 accepted-IsImage xs entry size r h bytes =
     let accepted = layout_accepted xs entry size h in
@@ -87,12 +93,14 @@ accepted-IsImage xs entry size r h bytes =
     }
 
 -- an image of parts that are those of the segments
-pub made : (xs : List LoadSegment) (entry size base : ℕ) (ram : List ℕ) (code : List Bool) → base ≡ base_of xs → ram ≡ map (byte_in xs) (range_with_len base size) → code ≡ map (code_in xs) (range_with_len base size) →
+pub made : (xs : List LoadSegment) (entry size base : ℕ) (ram : List ℕ) (code : List Bool) → base ≡ base_of xs
+    → ram ≡ map (byte_in xs) (range_with_len base size) → code ≡ map (code_in xs) (range_with_len base size) →
     ◌≡◌ {A = LoadedImage} (record { base = base; ram = ram; code = code; entry = entry }) (image_in xs entry size)
 unfolding image_in
 made xs entry size base ram code b r c = rw (r, c, b) refl
 
-pub made-IsImage : (xs : List LoadSegment) (entry size base : ℕ) (ram : List ℕ) (code : List Bool) → IsRamSize size → layout_refusal xs entry size ≡ None → base ≡ base_of xs → ram ≡ map (byte_in xs) (range_with_len base size) → code ≡ map (code_in xs) (range_with_len base size) →
+pub made-IsImage : (xs : List LoadSegment) (entry size base : ℕ) (ram : List ℕ) (code : List Bool) → IsRamSize size → layout_refusal xs entry size ≡ None
+    → base ≡ base_of xs → ram ≡ map (byte_in xs) (range_with_len base size) → code ≡ map (code_in xs) (range_with_len base size) →
     ((k : ℕ) → slice_index ram k < 256) → IsImage (record { base = base; ram = ram; code = code; entry = entry })
 made-IsImage xs entry size base ram code r h b e f bytes =
     let P : List ℕ → Type 0 = λ m. (k : ℕ) → slice_index m k < 256 in

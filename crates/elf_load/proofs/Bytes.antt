@@ -44,7 +44,8 @@ byte_in-sum a (s ∷ xs) e =
     let parts : (list_any (overlaps s) xs ≡ false) × (some_overlap xs ≡ false) = or_parts _ _ e in
     let rest : byte_in xs a ≡ sum_by (share a) xs = byte_in-sum a xs parts.1 in
     let all : sum_by (share a) (s ∷ xs) ≡ share a s + sum_by (share a) xs = sum_by-cons (share a) s xs in
-    one (holds s a) (slice_index s.bytes (a - s.vaddr)) (byte_in xs a) _ _ _ refl (λ h. share-yes a s h) (λ h. share-no a s h) (λ h. others s a xs h parts.0) rest all
+    one (holds s a) (slice_index s.bytes (a - s.vaddr)) (byte_in xs a) _ _ _ refl (λ h. share-yes a s h) (λ h. share-no a s h)
+    (λ h. others s a xs h parts.0) rest all
   where
     one : (h : Bool) (x y p r all : ℕ) → p ≡ p → (h ≡ true → p ≡ x) → (h ≡ false → p ≡ 0) → (h ≡ true → r ≡ 0) → y ≡ r → all ≡ p + r → cond h x y ≡ all
     one true x y p r all q f g o e u = omega (arith, f refl, o refl)

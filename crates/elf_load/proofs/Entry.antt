@@ -1,5 +1,6 @@
 -- The bytes of an image that can be fetched are those of its executable segments.
-use Rattle.std.proofs.Common.{◌≡◌, ℕ, suc, ◌+◌, ◌-◌, ◌*◌, ◌/◌, ◌%◌, ◌<◌, ◌≤◌, Bool, true, false, not, cond, ◌&&◌, eqb, ltb, leb, ◌≢◌, List, [], ◌∷◌, length, map, get_or, Some, None, is_none, refl, arith, inl, inr}
+use Rattle.std.proofs.Common.{◌≡◌, ℕ, suc, ◌+◌, ◌-◌, ◌*◌, ◌/◌, ◌%◌, ◌<◌, ◌≤◌, Bool, true, false, not, cond, ◌&&◌, eqb, ltb, leb, ◌≢◌, List, [], ◌∷◌, length}
+use Rattle.std.proofs.Common.{map, get_or, Some, None, is_none, refl, arith, inl, inr}
 use Rattle.std.specs.List.{list_any, range_with_len, All}
 use Rattle.std.proofs.lemmas.Bool.{false≢true, or_parts, or_cases, and_parts, and_from, ltb-true, leb-true, le-leb, lt-ltb, ne_eqb}
 use Rattle.std.proofs.lemmas.Bool.Decides.{nat_tests}
@@ -17,7 +18,8 @@ in_segment s low high a l e h =
     let reached : holds s a ≡ true = held.1 in
     (grind (arith, nat_tests), grind (arith, nat_tests))
 
-within : (xs : List LoadSegment) (low high a : ℕ) → All (λ s. low ≤ s.vaddr) xs → list_any (ends_above high) xs ≡ false → code_in xs a ≡ true → (low ≤ a) × (a < high)
+within : (xs : List LoadSegment) (low high a : ℕ) → All (λ s. low ≤ s.vaddr) xs → list_any (ends_above high) xs ≡ false → code_in xs a ≡ true
+    → (low ≤ a) × (a < high)
 unfolding code_in
 within [] low high a l e h = absurd (cc)
 within (s ∷ rest) low high a l e h =
@@ -69,7 +71,14 @@ pub executable4 : (xs : List LoadSegment) (entry size a w : ℕ) → has_bad_lay
     word_executable (image_in xs entry size) w ≡ (code_in xs a && code_in xs (a + 1) && code_in xs (a + 2) && code_in xs (a + 3))
 unfolding word_executable
 executable4 xs entry size a w h e =
-    rw (e, executable-image_in xs entry size (4 * w) h, executable-image_in xs entry size (4 * w + 1) h, executable-image_in xs entry size (4 * w + 2) h, executable-image_in xs entry size (4 * w + 3) h) refl
+    rw (
+      e,
+      executable-image_in xs entry size (4 * w) h,
+      executable-image_in xs entry size (4 * w + 1) h,
+      executable-image_in xs entry size
+          (4 * w + 2) h,
+      executable-image_in xs entry size (4 * w + 3) h,
+    ) refl
 
 is_none-cond : (b : Bool) (x : ℕ) → is_none {T = ℕ} (cond b (Some x) None) ≡ not b
 is_none-cond true x = refl

@@ -1,5 +1,6 @@
 -- Which bytes of an image are executable.
-use Rattle.std.proofs.Common.{◌≡◌, ℕ, zero, suc, ◌+◌, ◌<◌, Bool, true, false, ◌||◌, cond, ◌*◌, ◌-◌, ◌^◌, drop, Some, None, refl, inl, inr, arith, add-one, add-zero}
+use Rattle.std.proofs.Common.{◌≡◌, ℕ, zero, suc, ◌+◌, ◌<◌, Bool, true, false, ◌||◌, cond, ◌*◌, ◌-◌, ◌^◌, drop, Some, None, refl, inl, inr, arith, add-one}
+use Rattle.std.proofs.Common.{add-zero}
 use Rattle.std.proofs.lemmas.Bool.Decides.{nat_tests}
 use Rattle.std.proofs.lemmas.Bool.{and_parts, and_left, both_ways, cases_Bool}
 use Rattle.std.proofs.lemmas.List.{get_or-drop}

@@ -26,7 +26,8 @@ made_of base size bytes flags entry = record {
   entry = entry;
 }
 
-pub image_in-IsPermutation : (xs ys : List LoadSegment) (entry size : ℕ) → IsPermutation xs ys → some_overlap xs ≡ false → image_in xs entry size ≡ image_in ys entry size
+pub image_in-IsPermutation : (xs ys : List LoadSegment) (entry size : ℕ) → IsPermutation xs ys → some_overlap xs ≡ false
+    → image_in xs entry size ≡ image_in ys entry size
 unfolding image_in made_of
 image_in-IsPermutation xs ys entry size p e =
     let bytes : byte_in xs ≡ byte_in ys = fun_ext (byte_in-IsPermutation xs ys p e) in
@@ -38,23 +39,33 @@ image_in-IsPermutation xs ys entry size p e =
 has_bad_layout-IsPermutation : (xs ys : List LoadSegment) (size : ℕ) → IsPermutation xs ys → has_bad_layout xs size ≡ has_bad_layout ys size
 unfolding has_bad_layout
 has_bad_layout-IsPermutation xs ys size p =
-    rw (sym (length_permutation xs ys p), base_of-IsPermutation xs ys p, list_any-IsPermutation (ends_above (base_of ys + size)) xs ys p, some_overlap-IsPermutation xs ys p) refl
+    rw (
+      sym (length_permutation xs ys p),
+      base_of-IsPermutation xs ys p,
+      list_any-IsPermutation
+          (ends_above (base_of ys + size)) xs ys p,
+      some_overlap-IsPermutation xs ys p,
+    ) refl
 
 pub no_overlap-has_bad_layout : (xs : List LoadSegment) (size : ℕ) → has_bad_layout xs size ≡ false → some_overlap xs ≡ false
 unfolding has_bad_layout
 no_overlap-has_bad_layout xs size h =
     (or_parts _ _ h).1
 
-has_bad_entry-IsPermutation : (xs ys : List LoadSegment) (entry size : ℕ) → IsPermutation xs ys → has_bad_layout xs size ≡ false → has_bad_entry xs entry size ≡ has_bad_entry ys entry size
+has_bad_entry-IsPermutation : (xs ys : List LoadSegment) (entry size : ℕ) → IsPermutation xs ys → has_bad_layout xs size ≡ false
+    → has_bad_entry xs entry size ≡ has_bad_entry ys entry size
 unfolding has_bad_entry
 has_bad_entry-IsPermutation xs ys entry size p h =
     rw (image_in-IsPermutation xs ys entry size p (no_overlap-has_bad_layout xs size h)) refl
 
-pub layout_refusal-IsPermutation : (xs ys : List LoadSegment) (entry size : ℕ) → IsPermutation xs ys → layout_refusal xs entry size ≡ layout_refusal ys entry size
+pub layout_refusal-IsPermutation : (xs ys : List LoadSegment) (entry size : ℕ) → IsPermutation xs ys
+    → layout_refusal xs entry size ≡ layout_refusal ys entry size
 unfolding layout_refusal
 layout_refusal-IsPermutation xs ys entry size p =
-    chain (has_bad_layout xs size) (has_bad_layout ys size) (has_bad_entry xs entry size) (has_bad_entry ys entry size) (has_bad_layout-IsPermutation xs ys size p) (has_bad_entry-IsPermutation xs ys entry size p)
+    chain (has_bad_layout xs size) (has_bad_layout ys size) (has_bad_entry xs entry size) (has_bad_entry ys entry size)
+    (has_bad_layout-IsPermutation xs ys size p) (has_bad_entry-IsPermutation xs ys entry size p)
   where
-    chain : (b c x y : Bool) → b ≡ c → (b ≡ false → x ≡ y) → ◌≡◌ {A = Option ℕ} (cond b (Some 11) (cond x (Some 12) None)) (cond c (Some 11) (cond y (Some 12) None))
+    chain : (b c x y : Bool) → b ≡ c → (b ≡ false → x ≡ y)
+        → ◌≡◌ {A = Option ℕ} (cond b (Some 11) (cond x (Some 12) None)) (cond c (Some 11) (cond y (Some 12) None))
     chain true c x y e f = rw (sym e) refl
     chain false c x y e f = rw (sym e, f refl) refl

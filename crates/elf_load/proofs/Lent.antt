@@ -1,5 +1,6 @@
 -- Segments as they are lent.
-use Rattle.std.proofs.Common.{◌≡◌, ℕ, ◌+◌, ◌<◌, ◌≤◌, Bool, true, false, ◌&&◌, ◌||◌, leb, eqb, List, [], ◌∷◌, length, map, get_or, refl, sym, subst, ◌*◌, ◌/◌, ◌^◌, arith}
+use Rattle.std.proofs.Common.{◌≡◌, ℕ, ◌+◌, ◌<◌, ◌≤◌, Bool, true, false, ◌&&◌, ◌||◌, leb, eqb, List, [], ◌∷◌, length, map, get_or, refl, sym, subst, ◌*◌, ◌/◌}
+use Rattle.std.proofs.Common.{◌^◌, arith}
 use Rattle.std.proofs.lemmas.Bool.{ne_eqb}
 use Rattle.std.specs.List.{list_any, AllPairs, AllAdjacentBelow}
 use Rattle.std.proofs.lemmas.List.{get_or-map, length-map}
@@ -26,7 +27,8 @@ code_in-lent xs a = list_any-map (λ s. s.exec && holds s a) lent xs
 pub ruleset tests_of_lent = (ends_above-lent, code_in-lent)
 
 -- a fact of two segments and what they lend
-pair-lent : (R : LoadSegment → LoadSegment → Type 0) (xs : List Segment) (i j : ℕ) (d : LoadSegment) → i < length xs → j < length xs → ((e : Segment) → R (lent (get_or xs i e)) (lent (get_or xs j e))) → R (get_or (map lent xs) i d) (get_or (map lent xs) j d)
+pair-lent : (R : LoadSegment → LoadSegment → Type 0) (xs : List Segment) (i j : ℕ) (d : LoadSegment) → i < length xs → j < length xs
+    → ((e : Segment) → R (lent (get_or xs i e)) (lent (get_or xs j e))) → R (get_or (map lent xs) i d) (get_or (map lent xs) j d)
 pair-lent R [] i j d hi hj h = absurd (omega arith)
 pair-lent R (x ∷ xs) i j d hi hj h =
     let first : lent (get_or (x ∷ xs) i x) ≡ get_or (map lent (x ∷ xs)) i d = sym (get_or-map lent (x ∷ xs) i x d hi) in
@@ -41,7 +43,8 @@ rising-lent xs h i j d p q =
     let long : length (map lent xs) ≡ length xs = length-map xs lent in
     pair-lent (λ s t. s.vaddr ≤ t.vaddr) xs i j d (omega arith) (omega arith) (λ e. h i j e p (omega arith))
 
-apart-lent : (xs : List Segment) → AllAdjacentBelow (λ s t. s.vaddr + s.memsz ≤ t.vaddr) xs (length xs) → AllAdjacentBelow (λ s t. s.vaddr + s.memsz ≤ t.vaddr) (map lent xs) (length (map lent xs))
+apart-lent : (xs : List Segment) → AllAdjacentBelow (λ s t. s.vaddr + s.memsz ≤ t.vaddr) xs (length xs)
+    → AllAdjacentBelow (λ s t. s.vaddr + s.memsz ≤ t.vaddr) (map lent xs) (length (map lent xs))
 unfolding lent
 apart-lent xs h k d p =
     let long : length (map lent xs) ≡ length xs = length-map xs lent in
@@ -51,7 +54,8 @@ apart-lent xs h k d p =
 abbrev pub no_segment : Segment
 no_segment = record { vaddr = 0; bytes = record { ref_ptr = (0, 0); now = [] }; memsz = 0; exec = false }
 
-overlap_next : (xs : List Segment) (k : ℕ) (e : Segment) → AreInOrder (map lent xs) → k + 1 < length xs → (get_or xs (k + 1) e).vaddr < (get_or xs k e).vaddr + (get_or xs k e).memsz → some_overlap (map lent xs) ≡ true
+overlap_next : (xs : List Segment) (k : ℕ) (e : Segment) → AreInOrder (map lent xs) → k + 1 < length xs
+    → (get_or xs (k + 1) e).vaddr < (get_or xs k e).vaddr + (get_or xs k e).memsz → some_overlap (map lent xs) ≡ true
 unfolding lent
 overlap_next xs k e o h less =
     let long : length (map lent xs) ≡ length xs = length-map xs lent in
@@ -60,18 +64,21 @@ overlap_next xs k e o h less =
     overlap-neighbours (map lent xs) k (lent e) o (omega arith) (rw (first, second) less)
 
 -- two neighbours overlap
-pub overlap-lent : (xs : List Segment) (i j : ℕ) (e : Segment) → AreInOrder (map lent xs) → j ≡ i + 1 → j < length xs → (get_or xs j e).vaddr < (get_or xs i e).vaddr + (get_or xs i e).memsz → some_overlap (map lent xs) ≡ true
+pub overlap-lent : (xs : List Segment) (i j : ℕ) (e : Segment) → AreInOrder (map lent xs) → j ≡ i + 1 → j < length xs
+    → (get_or xs j e).vaddr < (get_or xs i e).vaddr + (get_or xs i e).memsz → some_overlap (map lent xs) ≡ true
 overlap-lent xs i j e o next h less =
     let P : ℕ → Type 0 = λ m. (m < length xs) × ((get_or xs m e).vaddr < (get_or xs i e).vaddr + (get_or xs i e).memsz) in
     let both : P (i + 1) = subst P next (h, less) in
     overlap_next xs i e o both.0 both.1
 
 -- no two neighbours do
-pub no_overlap-lent : (xs : List Segment) → AreInOrder (map lent xs) → AllAdjacentBelow (λ s t. s.vaddr + s.memsz ≤ t.vaddr) xs (length xs) → some_overlap (map lent xs) ≡ false
+pub no_overlap-lent : (xs : List Segment) → AreInOrder (map lent xs) → AllAdjacentBelow (λ s t. s.vaddr + s.memsz ≤ t.vaddr) xs (length xs)
+    → some_overlap (map lent xs) ≡ false
 no_overlap-lent xs o h = no_overlap-AreApart (map lent xs) (AreApart-neighbours (map lent xs) o (apart-lent xs h))
 
 -- the first is the lowest
-pub base_of-lent : (xs : List Segment) (e : Segment) → AreInOrder (map lent xs) → 0 < length xs → (get_or xs 0 e).vaddr < 2 ^ 32 → base_of (map lent xs) ≡ (get_or xs 0 e).vaddr / 65536 * 65536
+pub base_of-lent : (xs : List Segment) (e : Segment) → AreInOrder (map lent xs) → 0 < length xs → (get_or xs 0 e).vaddr < 2 ^ 32
+    → base_of (map lent xs) ≡ (get_or xs 0 e).vaddr / 65536 * 65536
 unfolding base_of lent
 base_of-lent xs e o h small =
     let long : length (map lent xs) ≡ length xs = length-map xs lent in

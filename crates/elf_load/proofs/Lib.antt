@@ -5,6 +5,7 @@ pub mod Overlap
 pub mod Neighbours
 pub mod Lowest
 pub mod Bytes
+pub mod ByteLists
 pub mod Images
 pub mod Entry
 pub mod Lent
@@ -13,3 +14,4 @@ pub mod Filling
 pub mod Accepted
 pub mod Loaded
 pub mod InRam
+pub mod AcceptedImage

@@ -33,14 +33,16 @@ lowest-IsPermutation xs ys p =
     omega (arith, lowest-IsPermutation_le xs ys p, lowest-IsPermutation_le ys xs (IsPermutation-sym xs ys p))
 
 -- in order of address it is that of the first
-pub lowest-first : (xs : List LoadSegment) (d : LoadSegment) → 0 < length xs → (get_or xs 0 d).vaddr < 2 ^ 32 → AllPairs (λ s t. s.vaddr ≤ t.vaddr) xs → lowest xs ≡ (get_or xs 0 d).vaddr
+pub lowest-first : (xs : List LoadSegment) (d : LoadSegment) → 0 < length xs → (get_or xs 0 d).vaddr < 2 ^ 32 → AllPairs (λ s t. s.vaddr ≤ t.vaddr) xs
+    → lowest xs ≡ (get_or xs 0 d).vaddr
 lowest-first [] d l small h = absurd (omega arith)
 lowest-first (s ∷ rest) d l small h =
     let below : lowest (s ∷ rest) ≤ s.vaddr = lowest-le (s ∷ rest) 0 d l in
     let each : All (λ t. s.vaddr ≤ t.vaddr) (s ∷ rest) = λ k e p. first_le s rest h k e p in
     omega (arith, below, lowest-greatest s.vaddr (s ∷ rest) (omega arith) each)
   where
-    first_le : (s : LoadSegment) (rest : List LoadSegment) → AllPairs (λ s t. s.vaddr ≤ t.vaddr) (s ∷ rest) → (k : ℕ) (e : LoadSegment) → k < length (s ∷ rest) → s.vaddr ≤ (get_or (s ∷ rest) k e).vaddr
+    first_le : (s : LoadSegment) (rest : List LoadSegment) → AllPairs (λ s t. s.vaddr ≤ t.vaddr) (s ∷ rest) → (k : ℕ) (e : LoadSegment)
+        → k < length (s ∷ rest) → s.vaddr ≤ (get_or (s ∷ rest) k e).vaddr
     first_le s rest h zero e p = omega arith
     first_le s rest h (suc k) e p = h 0 (suc k) e (omega arith) p
 

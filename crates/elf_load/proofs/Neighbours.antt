@@ -33,7 +33,8 @@ list_any_at p [] k d h e = absurd (omega arith)
 list_any_at p (x ∷ xs) zero d h e = or_left (p x) (list_any p xs) e
 list_any_at p (x ∷ xs) (suc k) d h e = or_right (p x) (list_any p xs) (list_any_at p xs k d (omega arith) e)
 
-overlap-at : (xs : List LoadSegment) (i j : ℕ) (d : LoadSegment) → i < j → j < length xs → overlaps (get_or xs i d) (get_or xs j d) ≡ true → some_overlap xs ≡ true
+overlap-at : (xs : List LoadSegment) (i j : ℕ) (d : LoadSegment) → i < j → j < length xs → overlaps (get_or xs i d) (get_or xs j d) ≡ true
+    → some_overlap xs ≡ true
 unfolding some_overlap
 overlap-at [] i j d p q e = absurd (omega arith)
 overlap-at (s ∷ rest) i zero d p q e = absurd (omega arith)
@@ -41,9 +42,11 @@ overlap-at (s ∷ rest) zero (suc j) d p q e = or_left (list_any (overlaps s) re
 overlap-at (s ∷ rest) (suc i) (suc j) d p q e = or_right (list_any (overlaps s) rest) (some_overlap rest) (overlap-at rest i j d (omega arith) (omega arith) e)
 
 -- a segment that begins before the end of the one before it shares an address with it
-pub overlap-neighbours : (xs : List LoadSegment) (k : ℕ) (d : LoadSegment) → AreInOrder xs → k + 1 < length xs → (get_or xs (k + 1) d).vaddr < (get_or xs k d).vaddr + (get_or xs k d).memsz → some_overlap xs ≡ true
+pub overlap-neighbours : (xs : List LoadSegment) (k : ℕ) (d : LoadSegment) → AreInOrder xs → k + 1 < length xs
+    → (get_or xs (k + 1) d).vaddr < (get_or xs k d).vaddr + (get_or xs k d).memsz → some_overlap xs ≡ true
 overlap-neighbours xs k d o h e =
-    overlap-at xs k (k + 1) d (omega arith) h (overlap-behind (get_or xs k d) (get_or xs (k + 1) d) (o.rising k (k + 1) d (omega arith) h) e (o.some (k + 1) d h))
+    overlap-at xs k (k + 1) d (omega arith) h
+    (overlap-behind (get_or xs k d) (get_or xs (k + 1) d) (o.rising k (k + 1) d (omega arith) h) e (o.some (k + 1) d h))
 
 -- where each neighbour ends before the next begins, so does each
 pub AreApart-neighbours : (xs : List LoadSegment) → AreInOrder xs → AllAdjacentBelow (λ s t. s.vaddr + s.memsz ≤ t.vaddr) xs (length xs) → AreApart xs

@@ -23,7 +23,8 @@ or_false a false = refl
 pub list_any_push : {X : Type 0} (p : X → Bool) (xs : List X) (x : X) → list_any p (xs ++ x ∷ []) ≡ (list_any p xs || p x)
 list_any_push p xs x = rw list_any-append (or_false (list_any p xs) (p x))
 
-pub IsFound-none : (file : List ℕ) (found : Found) → found.interpreter ≡ false → found.bad_range ≡ false → found.segments.items ≡ [] → IsFound file (first_headers file 0) found
+pub IsFound-none : (file : List ℕ) (found : Found) → found.interpreter ≡ false → found.bad_range ≡ false → found.segments.items ≡ []
+    → IsFound file (first_headers file 0) found
 unfolding first_headers
 IsFound-none file found i b s = record { interpreter = i; bad_range = b; segments = ap (map lent) s }
 
@@ -32,7 +33,8 @@ one_more file true h = refl
 one_more file false h = refl
 
 -- the headers so far and one more
-found_more : (file : List ℕ) (hs : List ProgramHeader) (h : ProgramHeader) (old new : Found) → IsFound file hs old → AddsHeader file h old new → IsFound file (hs ++ h ∷ []) new
+found_more : (file : List ℕ) (hs : List ProgramHeader) (h : ProgramHeader) (old new : Found) → IsFound file hs old → AddsHeader file h old new
+    → IsFound file (hs ++ h ∷ []) new
 found_more file hs h old new f a = record {
   interpreter = rw (list_any_push is_interpreter hs h, a.interpreter, f.interpreter) refl;
   bad_range = rw (list_any_push (has_bad_range file) hs h, a.bad_range, f.bad_range) refl;
@@ -42,5 +44,6 @@ found_more file hs h old new f a = record {
       rw (filter-append, map-append, a.segments, f.segments, kept, one) refl;
 }
 
-pub IsFound-more : (file : List ℕ) (k : ℕ) (old new : Found) (h : ProgramHeader) → h ≡ program_header file (headers_offset file + 32 * k) → IsFound file (first_headers file k) old → AddsHeader file h old new → IsFound file (first_headers file (k + 1)) new
+pub IsFound-more : (file : List ℕ) (k : ℕ) (old new : Found) (h : ProgramHeader) → h ≡ program_header file (headers_offset file + 32 * k)
+    → IsFound file (first_headers file k) old → AddsHeader file h old new → IsFound file (first_headers file (k + 1)) new
 IsFound-more file k old new h e f a = rw first_headers-more (rw (← e) (found_more file (first_headers file k) h old new f a))

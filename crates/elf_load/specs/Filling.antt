@@ -1,4 +1,4 @@
--- What is written into RAM.
+-- Scaffolding of the loops that fill RAM, for the contracts of private functions: what each of them writes.
 use Rattle.std.specs.Prelude.{◌≡◌, ℕ, ◌+◌, ◌-◌, ◌≤◌, Bool, true, ◌&&◌, ◌||◌, ◌<◌, nat_le, nat_lt, if◌then◌else◌, List, length, slice_index, slice_index_or}
 use Rattle.std.specs.List.{All}
 use Rattle.elf_load.specs.Headers.{LoadSegment}

@@ -2,6 +2,7 @@
 use Rattle.std.specs.Prelude.{ℕ, ◌+◌, ◌*◌, ◌%◌, Bool, ◌==◌, ◌&&◌, nat_lt, List, drop, map, slice_range}
 use Rattle.std.specs.List.{filter, range_with_len}
 use Rattle.byteorder.specs.Endian.{little_number}
+use Rattle.elf_load.specs.declared.sizes.TheConstants.{PROGRAM_HEADER}
 use Rattle.elf_load.specs.declared.headers.ProgramHeader.{ProgramHeader}
 
 -- the 16-bit field at an offset in the file
@@ -33,9 +34,9 @@ program_header file at = record {
   flags = word_at file (at + 24);
 }
 
--- the first n program headers, of 32 bytes each
+-- the first n program headers, one behind the other
 unfoldable pub first_headers : List ℕ → ℕ → List ProgramHeader
-first_headers file n = map (λ k. program_header file (headers_offset file + 32 * k)) (range_with_len 0 n)
+first_headers file n = map (λ k. program_header file (headers_offset file + PROGRAM_HEADER * k)) (range_with_len 0 n)
 
 unfoldable pub program_headers : List ℕ → List ProgramHeader
 program_headers file = first_headers file (headers_count file)

@@ -1,6 +1,8 @@
 -- An image as loaded: what every later theorem starts from.
-use Rattle.std.specs.Prelude.{◌≡◌, ℕ, zero, suc, ◌+◌, ◌-◌, ◌*◌, ◌/◌, ◌%◌, ◌^◌, ◌<◌, Bool, false, ◌&&◌, ◌||◌, nat_le, nat_lt, if◌then◌else◌, List, length, drop, slice_index, slice_index_or, Option, Some, None, IsSome}
+use Rattle.std.specs.Prelude.{◌≡◌, ℕ, zero, suc, ◌+◌, ◌-◌, ◌*◌, ◌/◌, ◌%◌, ◌^◌, ◌<◌, Bool, false, ◌&&◌, ◌||◌, nat_le, nat_lt, if◌then◌else◌, List, length}
+use Rattle.std.specs.Prelude.{drop, slice_index, slice_index_or, Option, Some, None, IsSome}
 use Rattle.byteorder.specs.Endian.{little_number}
+use Rattle.elf_load.specs.declared.sizes.TheConstants.{BLOCK}
 
 -- RAM with what the program headers put there, and where the program begins.
 pub record LoadedImage : Type 0 where
@@ -40,11 +42,11 @@ word_executable image w =
 unfoldable pub fetch : LoadedImage → ℕ → Option ℕ
 fetch image w = if word_executable image w then Some (little_number 4 (drop (4 * w - image.base) image.ram)) else None
 
--- What holds of every image that was loaded: RAM is a whole number of 65,536-byte blocks at a block's address, below 2^32;
+-- What holds of every image that was loaded: RAM is a whole number of blocks at a block's address, below 2^32;
 -- each byte has a flag; the entry is a word address and the word there can be fetched.
 pub record IsImage (image : LoadedImage) : Type 0 where
-  pub aligned : image.base % 65536 ≡ 0
-  pub blocks : length image.ram % 65536 ≡ 0
+  pub aligned : image.base % BLOCK ≡ 0
+  pub blocks : length image.ram % BLOCK ≡ 0
   pub below : image.base + length image.ram < 2 ^ 32
   pub flags : length image.code ≡ length image.ram
   pub bytes : (k : ℕ) → slice_index image.ram k < 256

@@ -1,13 +1,14 @@
 -- How segments lie one after the other.
-use Rattle.std.specs.Prelude.{◌≡◌, ℕ, ◌+◌, ◌%◌, ◌^◌, ◌<◌, ◌≤◌, List}
+use Rattle.std.specs.Prelude.{◌≡◌, ℕ, ◌+◌, ◌%◌, ◌<◌, ◌≤◌, List}
 use Rattle.std.specs.List.{All, AllPairs}
+use Rattle.elf_load.specs.declared.sizes.TheConstants.{BLOCK, LEAST_RAM, MOST_RAM}
 use Rattle.elf_load.specs.Headers.{LoadSegment}
 
--- RAM has a whole number of blocks of 65,536 bytes, from 1 to 16 MiB
+-- RAM has a whole number of blocks, and from 1 to 16 MiB
 pub record IsRamSize (size : ℕ) : Type 0 where
-  pub blocks : size % 65536 ≡ 0
-  pub least : 2 ^ 20 ≤ size
-  pub most : size ≤ 2 ^ 24
+  pub blocks : size % BLOCK ≡ 0
+  pub least : LEAST_RAM ≤ size
+  pub most : size ≤ MOST_RAM
 
 -- in order of address, each with bytes
 pub record AreInOrder (segments : List LoadSegment) : Type 0 where

@@ -6,3 +6,4 @@ pub mod Layout
 pub mod Answers
 pub mod Walk
 pub mod Filling
+pub mod Law

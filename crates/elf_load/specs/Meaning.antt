@@ -1,6 +1,7 @@
 -- The image that a file means, field by field, for a RAM of so many bytes.
 use Rattle.std.specs.Prelude.{ℕ, ◌+◌, ◌-◌, ◌*◌, ◌/◌, ◌^◌, Bool, ◌&&◌, nat_le, nat_lt, if◌then◌else◌, List, [], ◌∷◌, map, min, slice_index}
 use Rattle.std.specs.List.{list_any, range_with_len}
+use Rattle.elf_load.specs.declared.sizes.TheConstants.{BLOCK}
 use Rattle.elf_load.specs.Headers.{LoadSegment, segments_of, entry_of}
 use Rattle.elf_load.specs.Image.{LoadedImage}
 
@@ -22,9 +23,9 @@ unfoldable pub lowest : List LoadSegment → ℕ
 lowest [] = 2 ^ 32
 lowest (s ∷ rest) = min s.vaddr (lowest rest)
 
--- RAM begins at the lowest loadable address, rounded down to a multiple of 65,536
+-- RAM begins at the lowest loadable address, rounded down to a block
 unfoldable pub base_of : List LoadSegment → ℕ
-base_of segments = lowest segments / 65536 * 65536
+base_of segments = lowest segments / BLOCK * BLOCK
 
 -- the image of these segments with this entry, in a RAM of so many bytes
 unfoldable pub image_in : List LoadSegment → ℕ → ℕ → LoadedImage

@@ -1,7 +1,9 @@
 -- Why a file is no image: the first of twelve reasons, in the order of their numbers. Sums do not wrap.
-use Rattle.std.specs.Prelude.{ℕ, ◌+◌, ◌*◌, ◌/◌, ◌%◌, ◌^◌, Bool, false, not, ◌==◌, ◌&&◌, ◌||◌, nat_le, nat_lt, if◌then◌else◌, List, [], ◌∷◌, length, slice_index, Option, Some, None, is_none}
+use Rattle.std.specs.Prelude.{ℕ, ◌+◌, ◌*◌, ◌/◌, ◌%◌, ◌^◌, Bool, false, not, ◌==◌, ◌&&◌, ◌||◌, nat_le, nat_lt, if◌then◌else◌, List, [], ◌∷◌, length}
+use Rattle.std.specs.Prelude.{slice_index, Option, Some, None, is_none}
 use Rattle.std.specs.List.{list_any}
 use Rattle.std.specs.Option.{option_or}
+use Rattle.elf_load.specs.declared.sizes.TheConstants.{FILE_HEADER, PROGRAM_HEADER}
 use Rattle.elf_load.specs.declared.headers.ProgramHeader.{ProgramHeader}
 use Rattle.elf_load.specs.Headers.{half_at, word_at, headers_offset, headers_count, program_headers, LoadSegment, segments_of, entry_of}
 use Rattle.elf_load.specs.Image.{fetch}
@@ -11,7 +13,7 @@ use Rattle.elf_load.specs.Meaning.{base_of, image_in}
 
 -- 1: it is shorter than a file header
 unfoldable pub is_short : List ℕ → Bool
-is_short file = nat_lt (length file) 52
+is_short file = nat_lt (length file) FILE_HEADER
 
 -- 2: it doesn't begin with 7F 45 4C 46
 unfoldable pub lacks_magic : List ℕ → Bool
@@ -36,11 +38,11 @@ is_compressed file = word_at file 36 % 2 == 1
 
 -- 7: its headers have other sizes than 52 and 32 bytes
 unfoldable pub has_other_sizes : List ℕ → Bool
-has_other_sizes file = not ((half_at file 40 == 52) && (half_at file 42 == 32))
+has_other_sizes file = not ((half_at file 40 == FILE_HEADER) && (half_at file 42 == PROGRAM_HEADER))
 
 -- 8: its program headers end past its last byte
 unfoldable pub lacks_headers : List ℕ → Bool
-lacks_headers file = nat_lt (length file) (headers_offset file + 32 * headers_count file)
+lacks_headers file = nat_lt (length file) (headers_offset file + PROGRAM_HEADER * headers_count file)
 
 unfoldable pub file_refusal : List ℕ → Option ℕ
 file_refusal file =

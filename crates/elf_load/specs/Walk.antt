@@ -1,4 +1,4 @@
--- What one walk over the program headers finds.
+-- Scaffolding of the walk over the program headers, for the contracts of private functions: what it has found so far.
 use Rattle.std.specs.Prelude.{◌≡◌, ℕ, Bool, not, ◌&&◌, ◌||◌, if◌then◌else◌, List, [], ◌∷◌, ◌++◌, map}
 use Rattle.std.specs.List.{filter, list_any}
 use Rattle.elf_load.specs.declared.headers.ProgramHeader.{ProgramHeader}

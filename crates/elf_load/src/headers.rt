@@ -3,12 +3,8 @@ ghost use Rattle.std.specs.Prelude.{◌≡◌, ◌+◌, ◌*◌, ◌<◌, ◌≤
 ghost use Rattle.elf_load.specs.Headers as spec;
 ghost use Rattle.elf_load.specs.Refusal as refusal;
 
+use crate::sizes::{FILE_HEADER, PROGRAM_HEADER};
 use byteorder::{ByteOrder, LittleEndian};
-
-/// The sizes of the file header and of a program header in bytes.
-const FILE_HEADER: usize = 52;
-
-pub const PROGRAM_HEADER: usize = 32;
 
 /// The offsets in the file header.
 const TYPE: usize = 16;
@@ -75,7 +71,7 @@ pub fn word_at(file: &[u8], offset: usize) -> u32
 /// The program header at an offset.
 #[tactic(auto, unfolding(crate::specs::Headers::program_header))]
 pub fn program_header(file: &[u8], at: usize) -> ProgramHeader
-    requires { at + 32 ≤ length file.now }
+    requires { at + PROGRAM_HEADER ≤ length file.now }
     ensures { result ≡ spec.program_header file.now at }
 {
     ProgramHeader {
@@ -91,7 +87,7 @@ pub fn program_header(file: &[u8], at: usize) -> ProgramHeader
 /// Whether the file doesn't begin with 7F 45 4C 46.
 #[tactic(auto, unfolding(crate::specs::Refusal::lacks_magic))]
 fn lacks_magic(file: &[u8]) -> bool
-    requires { 52 ≤ length file.now }
+    requires { FILE_HEADER ≤ length file.now }
     ensures { result ≡ refusal.lacks_magic file.now }
 {
     !(file[0] == 0x7F && file[1] == 0x45 && file[2] == 0x4C && file[3] == 0x46)
@@ -100,7 +96,7 @@ fn lacks_magic(file: &[u8]) -> bool
 /// Whether the file isn't of 32 bits, little-endian and of version 1.
 #[tactic(auto, unfolding(crate::specs::Refusal::has_other_class))]
 fn has_other_class(file: &[u8]) -> bool
-    requires { 52 ≤ length file.now }
+    requires { FILE_HEADER ≤ length file.now }
     ensures { result ≡ refusal.has_other_class file.now }
 {
     !(file[4] == 1 && file[5] == 1 && file[6] == 1)
@@ -109,7 +105,7 @@ fn has_other_class(file: &[u8]) -> bool
 /// Whether the file's headers have other sizes than 52 and 32 bytes.
 #[tactic(auto, unfolding(crate::specs::Refusal::has_other_sizes))]
 fn has_other_sizes(file: &[u8]) -> bool
-    requires { 52 ≤ length file.now }
+    requires { FILE_HEADER ≤ length file.now }
     ensures { result ≡ refusal.has_other_sizes file.now }
 {
     !(half_at(file, FILE_HEADER_SIZE) == FILE_HEADER as u16
@@ -119,7 +115,7 @@ fn has_other_sizes(file: &[u8]) -> bool
 /// Whether the program headers end past the file.
 #[tactic(auto, unfolding(crate::specs::Refusal::lacks_headers, crate::specs::Headers::headers_offset, crate::specs::Headers::headers_count))]
 fn lacks_headers(file: &[u8]) -> bool
-    requires { 52 ≤ length file.now }
+    requires { FILE_HEADER ≤ length file.now }
     ensures { result ≡ refusal.lacks_headers file.now }
 {
     file.len()

@@ -8,9 +8,7 @@ ghost use Rattle.elf_load.specs.Meaning.{base_of, code_in, holds};
 ghost use Rattle.elf_load.specs.Refusal as refusal;
 
 use crate::segment::Segment;
-
-/// RAM begins at a multiple of this many bytes.
-const BLOCK: u32 = 65_536;
+use crate::sizes::BLOCK;
 
 /// How many byte addresses there are.
 const ADDRESSES: u64 = 0x1_0000_0000;

@@ -5,15 +5,16 @@ pub mod error;
 mod fill;
 mod headers;
 pub mod image;
+mod law;
 mod layout;
 mod loader;
 pub mod segment;
+pub mod sizes;
 mod walk;
 
 pub use error::LoadError;
 pub use image::Image;
+pub use law::accepted_means_image;
 pub use loader::{load, segments};
 pub use segment::Segment;
-
-#[cfg(test)]
-mod tests;
+pub use sizes::{LEAST_RAM, MOST_RAM};

@@ -6,10 +6,11 @@ ghost use Rattle.elf_load.specs.Refusal as refusal;
 ghost use Rattle.elf_load.specs.Walk.{is_lendable, IsFound, AddsHeader};
 
 use crate::headers::{
-    HEADERS_COUNT, HEADERS_OFFSET, INTERPRETER, LOADABLE, PROGRAM_HEADER, ProgramHeader, half_at,
-    program_header, word_at,
+    HEADERS_COUNT, HEADERS_OFFSET, INTERPRETER, LOADABLE, ProgramHeader, half_at, program_header,
+    word_at,
 };
 use crate::segment::Segment;
+use crate::sizes::PROGRAM_HEADER;
 use std::alloc::{AllocError, Global};
 
 /// What the program headers say.

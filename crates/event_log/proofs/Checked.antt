@@ -35,15 +35,18 @@ next-too P n before here k l =
       | inr m ↦ let e : k ≡ n = omega arith in rw e here
     ]
 
-pub so_far-more : (shape : Shape) (events : List CacheEvent) (n least : ℕ) (e : CacheEvent) → n < length events → e ≡ get_or events n e → least ≤ e.cycle → e.set < shape.sets → e.way < shape.ways → IsLogSoFar shape events n least → IsLogSoFar shape events (n + 1) (e.cycle + 1)
+pub so_far-more : (shape : Shape) (events : List CacheEvent) (n least : ℕ) (e : CacheEvent) → n < length events → e ≡ get_or events n e → least ≤ e.cycle →
+    e.set < shape.sets → e.way < shape.ways → IsLogSoFar shape events n least → IsLogSoFar shape events (n + 1) (e.cycle + 1)
 so_far-more shape events n least e l at order set way so_far =
     let here : (d : CacheEvent) → get_or events n d ≡ e = λ d. get_or_default events n d e l ∙ sym at in
     record {
       within = omega arith;
       none = λ z. absurd (omega arith);
       last = λ d p. let k : n + 1 - 1 ≡ n = omega arith in rw (k, here d) refl;
-      below = λ k d m. next-too (λ k. (get_or events k d).cycle < e.cycle + 1) n (λ k m. let b = so_far.below k d m in omega (arith, b)) (rw (here d) (omega arith)) k m;
-      rising = λ i j d m o. next-too (λ j. i < j → (get_or events i d).cycle < (get_or events j d).cycle) n (λ j o m. so_far.rising i j d m o) (λ m. rw (here d) (let b = so_far.below i d m in omega (arith, b))) j o m;
+      below = λ k d m. next-too (λ k. (get_or events k d).cycle < e.cycle + 1) n (λ k m. let b = so_far.below k d m in omega (arith, b))
+          (rw (here d) (omega arith)) k m;
+      rising = λ i j d m o. next-too (λ j. i < j → (get_or events i d).cycle < (get_or events j d).cycle) n (λ j o m. so_far.rising i j d m o)
+          (λ m. rw (here d) (let b = so_far.below i d m in omega (arith, b))) j o m;
       sets = λ k d m. next-too (λ k. (get_or events k d).set < shape.sets) n (λ k m. so_far.sets k d m) (rw (here d) set) k m;
       ways = λ k d m. next-too (λ k. (get_or events k d).way < shape.ways) n (λ k m. so_far.ways k d m) (rw (here d) way) k m;
     }
@@ -56,7 +59,8 @@ so_far-all shape events n least l so_far = record {
 }
 
 -- where the next event comes too early, the events are no log
-pub early : (shape : Shape) (events : List CacheEvent) (n least : ℕ) (e : CacheEvent) → n < length events → e ≡ get_or events n e → e.cycle < least → IsLogSoFar shape events n least → IsEventLog shape events → ⊥
+pub early : (shape : Shape) (events : List CacheEvent) (n least : ℕ) (e : CacheEvent) → n < length events → e ≡ get_or events n e → e.cycle < least →
+    IsLogSoFar shape events n least → IsEventLog shape events → ⊥
 early shape events n least e l at order so_far log =
     elim (cases_lt 0 n) [
       | inl p ↦

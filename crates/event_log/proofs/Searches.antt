@@ -19,7 +19,8 @@ partitioned n xs t rising a b d l h e =
     ]
 
 -- the element at the place between those below t and those from t on is the first from t on
-pub found-at : {X : Type 0} (n : X → ℕ) (t : ℕ) (xs : List X) (i : ℕ) → i ≤ length xs → AllWithin (λ x. ltb (n x) t ≡ true) xs 0 i → AllWithin (λ x. ltb (n x) t ≡ false) xs i (length xs) → slice_get xs i ≡ find (λ x. leb t (n x)) xs
+pub found-at : {X : Type 0} (n : X → ℕ) (t : ℕ) (xs : List X) (i : ℕ) → i ≤ length xs → AllWithin (λ x. ltb (n x) t ≡ true) xs 0 i →
+    AllWithin (λ x. ltb (n x) t ≡ false) xs i (length xs) → slice_get xs i ≡ find (λ x. leb t (n x)) xs
 found-at n t [] i l below above = refl
 found-at n t (x ∷ xs) zero l below above =
     let f : ltb (n x) t ≡ false = above 0 x (omega arith) (omega arith) in

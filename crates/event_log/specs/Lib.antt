@@ -1,2 +1,4 @@
 pub mod Cycles
 pub mod Events
+pub mod Lookups
+pub mod Nexts

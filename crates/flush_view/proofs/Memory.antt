@@ -1,6 +1,5 @@
 -- The memory law: what a cycle does to the view of memory and to the cache's coherence, outside a set X of lines.
 -- The cache, slot by slot:
---   Ways: the way that holds a line, after one slot is replaced.
 --   FoundByte: the byte that the cache finds, else main memory's.
 --   Drain: a store written into the way that holds its line; Fill: a line read into a way, whose old line is written back.
 --   MovedSlots: a move of the port as a change of slots and of memory.
@@ -9,7 +8,6 @@
 -- The law:
 --   SlotLaw: coherence and view after a move, over slots and lists; Loads, Given: what a done action gives its register.
 --   MemoryLaw: the machine's cycle. ViewBytes: the bytes of the view are below 256.
-pub mod Ways
 pub mod FoundByte
 pub mod Drain
 pub mod Fill

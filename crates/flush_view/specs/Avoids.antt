@@ -1,25 +1,19 @@
 -- Avoiding a set X of lines: no access in them.
-use Rattle.std.specs.Prelude.{◌≡◌, ⊤, ℕ, ◌/◌, Bool, false, List, [], ◌∷◌, Option, Some, None, if◌then◌else◌}
+use Rattle.std.specs.Prelude.{◌≡◌, ⊤, ℕ, Bool, false, List, [], ◌∷◌, Option, Some, None, if◌then◌else◌}
 use Rattle.rv_table.specs.declared.action.Action.{Action}
-use Rattle.rv_table.specs.declared.action.Action.TheVariants.{Loads, Stores}
-use Rattle.rv_isa.specs.Accesses.{next_action}
+use Rattle.rv_isa.specs.Accesses.{address_of, line_of, next_action}
 use Rattle.rv_isa.specs.Instruction.{State as Arch, Log}
 use Rattle.cyc_machine.specs.State.{State}
 use Rattle.flush_view.specs.Flush.{flush}
 
--- the byte address that an action loads from or stores to
-abbrev pub place_of : Action → Option ℕ
-place_of (Loads kind rd x) = Some x
-place_of (Stores kind x y) = Some x
-place_of _ = None
-
+-- an address, where there is one, is in no line of X
 abbrev pub IsOutside : (ℕ → Bool) → Option ℕ → Type 0
-IsOutside out (Some x) = out (x / 16) ≡ false
+IsOutside out (Some x) = out (line_of x) ≡ false
 IsOutside out None = ⊤
 
 -- an action accesses no line of X
 abbrev pub Avoids : (ℕ → Bool) → Action → Type 0
-Avoids out done = IsOutside out (place_of done)
+Avoids out done = IsOutside out (address_of done)
 
 abbrev pub AvoidsAll : (ℕ → Bool) → List Action → Type 0
 AvoidsAll out [] = ⊤
@@ -33,7 +27,7 @@ pub record AvoidsFlush (out : ℕ → Bool) (s : State) (clocks : List ℕ) (log
 
 -- memory in which the bytes of the lines of X read 0
 unfoldable pub masked : (ℕ → Bool) → (ℕ → ℕ) → ℕ → ℕ
-masked out memory p = if out (p / 16) then 0 else memory p
+masked out memory p = if out (line_of p) then 0 else memory p
 
 -- the state but for the bytes of the lines of X
 abbrev pub outside : (ℕ → Bool) → Arch → Arch

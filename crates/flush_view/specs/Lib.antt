@@ -1,8 +1,8 @@
 pub mod Avoids
 pub mod Coherence
 pub mod Flush
+pub mod FlushInputs
 pub mod FlushLaw
-pub mod FlushParts
 pub mod Ignored
 pub mod MemoryLaw
 pub mod Positions

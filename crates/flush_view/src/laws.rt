@@ -1,14 +1,16 @@
 // One cycle, with the laws that hold of it; the laws of a cycle, of the flush and of strikes for every state; and the law of the
 // run of an image.
-ghost use Rattle.std.specs.Prelude.{◌≡◌, ◌+◌, ◌<◌, ◌^◌, List, false, ℕ};
+ghost use Rattle.std.specs.Prelude.{◌≡◌, ◌+◌, ◌<◌, ◌^◌, All, List, false, ℕ};
 ghost use Rattle.bit_field.specs.Shapes.{IsShape};
 ghost use Rattle.cyc_machine.specs.Cycle.{cycle};
+ghost use Rattle.cyc_machine.specs.Facts.{IsMachine};
 ghost use Rattle.cyc_machine.specs.Reports.{IsCycle};
 ghost use Rattle.cyc_machine.specs.Sizes.{IsSteady};
 ghost use Rattle.cyc_machine.specs.State.{State};
 ghost use Rattle.cyc_machine.specs.declared.machine.TheConstants.{CYCLES_PER_INSTRUCTION};
+ghost use Rattle.flush_view.specs.Flush.{flush};
 ghost use Rattle.flush_view.specs.FlushLaw.{FlushLaw};
-ghost use Rattle.flush_view.specs.FlushParts.{FlushPartsLaw};
+ghost use Rattle.flush_view.specs.FlushInputs.{InRange, TakesClocks, after_log, completed_behind, no_log};
 ghost use Rattle.flush_view.specs.Ignored.{DiffersInIgnored, GoesInLockstep, LockstepLaw};
 ghost use Rattle.flush_view.specs.MemoryLaw.{MemoryLaw};
 ghost use Rattle.flush_view.specs.Progress.{LeavesWithin};
@@ -56,9 +58,13 @@ pub fn struck_laws()
     ensures { StruckLaws }
 {}
 
-/// Does nothing; its contract is what the flush of every state makes of the log before it and of the clock values.
+/// Does nothing; its contract is what the flush of every state makes of its latches and the entries behind them, of the log
+/// before it and of the clock values, and that its numbers are in their ranges where those of the machine are.
 pub fn flush_laws()
-    ensures parts { (s : State) (clocks : List ℕ) (log : Log) → FlushPartsLaw s clocks log }
+    ensures outcome { (s : State) (clocks : List ℕ) (log : Log) → flush s clocks log ≡ completed_behind s clocks log }
+    ensures logs { (s : State) (clocks : List ℕ) (log : Log) → flush s clocks log ≡ after_log log (flush s clocks no_log) }
+    ensures clocks { (s : State) (clocks : List ℕ) (log : Log) → TakesClocks s clocks log }
+    ensures ranges { (s : State) (clocks : List ℕ) (log : Log) → IsMachine s → All (λ clock. clock < 2 ^ 32) clocks → InRange (flush s clocks log) }
 {}
 
 /// Changes nothing; its contract is the law of the run of an image from reset, on a machine of a shape: each of its states

@@ -32,7 +32,13 @@ keeps x Word Word i ne = absurd (ne refl)
 keeps x _ _ i ne = refl
 
 same_fields : (x y : Entry) → ((f : SlotField) → value x f ≡ value y f) → x ≡ y
-same_fields x y same = λ j. record { valid = number_of-same x.valid y.valid (same Valid) j; fault = number_of-same x.fault y.fault (same Fault) j; pc = same Pc j; word = same Word j }
+same_fields x y same =
+    λ j. record {
+      valid = number_of-same x.valid y.valid (same Valid) j;
+      fault = number_of-same x.fault y.fault (same Fault) j;
+      pc = same Pc j;
+      word = same Word j;
+    }
 
 made_up : IsMadeUp layout number
 unfolding number

@@ -1,5 +1,6 @@
 -- The four slots of the instruction buffer, seen as a list of the instructions that wait.
-use Rattle.std.specs.Prelude.{ℕ, ◌-◌, List, ◌++◌, length, filter, replicate, slice_index_or}
+use Rattle.std.specs.Prelude.{ℕ, List, filter, slice_index_or}
+use Rattle.bit_field.specs.Slots.{in_front}
 use Rattle.inst_buf.specs.Entry.{Entry, no_entry}
 use Rattle.inst_buf.specs.declared.buffer.TheConstants.{SLOTS}
 
@@ -9,7 +10,7 @@ entries slots = filter (λ e. e.valid) slots
 
 -- the slots that hold this list: it stands in slots 0, 1, .., and all other slots are empty
 abbrev pub packed : List Entry → List Entry
-packed waiting = waiting ++ replicate (SLOTS - length waiting) no_entry
+packed = in_front SLOTS no_entry
 
 abbrev pub slot_of : List Entry → ℕ → Entry
 slot_of slots k = slice_index_or slots k no_entry

@@ -1,12 +1,12 @@
 -- What a slot of the instruction buffer holds.
 use Rattle.std.specs.Prelude.{ℕ, Bool, false}
 
--- a fetched instruction: whether there is one, whether its fetch failed, its word address and its word
+-- a fetched instruction
 pub record Entry : Type 0 where
-  pub valid : Bool
-  pub fault : Bool
-  pub pc : ℕ
-  pub word : ℕ
+  pub valid : Bool  -- whether there is one
+  pub fault : Bool  -- whether its fetch failed
+  pub pc : ℕ  -- its word address
+  pub word : ℕ  -- its word
 
 -- an empty slot is all zero
 abbrev pub no_entry : Entry

@@ -53,9 +53,9 @@ pub const SLOT_FIELDS: [SlotField; 4] = [
 ];
 
 impl Field for SlotField {
-    ghost use Rattle.inst_buf.specs.EntryBits as bits;
+    ghost use Rattle.inst_buf.specs.EntryBits as slot_bits;
 
-    ghost width_of = { bits.width };
+    ghost width_of = { slot_bits.width };
 
     fn width(self) -> u32 {
         match self {
@@ -68,15 +68,15 @@ impl Field for SlotField {
 
 impl Struck for Slot {
     ghost use Rattle.bit_field.specs.Layouts.{bit_count as bits_of_layout};
-    ghost use Rattle.inst_buf.specs.EntryBits as bits;
+    ghost use Rattle.inst_buf.specs.EntryBits as slot_bits;
 
-    ghost IsFit = { bits.IsFit };
+    ghost IsFit = { slot_bits.IsFit };
 
-    ghost bit_count = { λ _. bits_of_layout bits.layout };
+    ghost bit_count = { λ _. bits_of_layout slot_bits.layout };
 
-    ghost bit_of = { bits.bit_of };
+    ghost bit_of = { slot_bits.bit_of };
 
-    ghost flipped = { bits.flipped };
+    ghost flipped = { slot_bits.flipped };
 
     fn bits(&self) -> u32 {
         SLOT_BITS
@@ -107,19 +107,19 @@ impl Struck for Slot {
 
 impl Slot {
     ghost use Rattle.std.specs.Prelude.{◌<◌, Some};
-    ghost use Rattle.inst_buf.specs.EntryBits as bits;
+    ghost use Rattle.inst_buf.specs.EntryBits as slot_bits;
 
     /// The field that holds a bit, and which of the field's own bits that is, both counted from 0.
     pub fn field_at(bit: u32) -> (SlotField, u32)
         requires { bit < SLOT_BITS }
-        ensures { bits.field_of bit ≡ Some result }
+        ensures { slot_bits.field_of bit ≡ Some result }
     {
         field_at(&SLOT_FIELDS, bit)
     }
 
     // The number that a field holds.
     fn value(&self, field: SlotField) -> u32
-        ensures { result ≡ bits.value self.now field }
+        ensures { result ≡ slot_bits.value self.now field }
     {
         match field {
             SlotField::Valid => u32::from(self.valid),

@@ -13,7 +13,8 @@ use Rattle.line_life.specs.declared.changes.Change.{Change}
 -- after the bytes below `byte`, a read has added its cycle to those that it holds
 pub record IsReadSoFar (slot byte : ℕ) (e : CacheEvent) (old new : List (List ℕ)) : Type 0 where
   pub same : length new ≡ length old
-  pub lists : (k : ℕ) → get_or new k [] ≡ cond (slot == k / 16 && (ltb (k % 16) byte && holds_byte (k % 16) e)) (get_or old k [] ++ e.cycle ∷ []) (get_or old k [])
+  pub lists : (k : ℕ) → get_or new k [] ≡ cond (slot == k / 16 && (ltb (k % 16) byte && holds_byte (k % 16) e)) (get_or old k [] ++ e.cycle ∷ [])
+      (get_or old k [])
 
 -- the events that read byte k % 16 of slot k / 16, and those that change slot l
 abbrev pub reads_at : Shape → ℕ → CacheEvent → Bool
@@ -41,12 +42,14 @@ noted-none shape events = record {
   change = λ l h. get_or-replicate (slots shape) l [] [] h;
 }
 
-changes-more : (test : CacheEvent → Bool) (es : List CacheEvent) (n : ℕ) (e : CacheEvent) → n < length es → e ≡ get_or es n e → changes_of test (take (n + 1) es) ≡ cond (test e) (changes_of test (take n es) ++ change_of e ∷ []) (changes_of test (take n es))
+changes-more : (test : CacheEvent → Bool) (es : List CacheEvent) (n : ℕ) (e : CacheEvent) → n < length es → e ≡ get_or es n e →
+    changes_of test (take (n + 1) es) ≡ cond (test e) (changes_of test (take n es) ++ change_of e ∷ []) (changes_of test (take n es))
 unfolding changes_of
 changes-more test es n e l h = shown-more change_of test es n e l h
 
 -- one event more
-pub noted-more : (shape : Shape) (events : List CacheEvent) (n slot : ℕ) (e : CacheEvent) (rs ss : List (List ℕ)) (cs ds : List (List Change)) → n < length events → e ≡ get_or events n e → slot ≡ shape.ways * e.set + e.way → length ss ≡ length rs → length ds ≡ length cs
+pub noted-more : (shape : Shape) (events : List CacheEvent) (n slot : ℕ) (e : CacheEvent) (rs ss : List (List ℕ)) (cs ds : List (List Change)) →
+    n < length events → e ≡ get_or events n e → slot ≡ shape.ways * e.set + e.way → length ss ≡ length rs → length ds ≡ length cs
     → ((k : ℕ) → get_or ss k [] ≡ cond (slot == k / 16 && reads_byte (k % 16) e) (get_or rs k [] ++ e.cycle ∷ []) (get_or rs k []))
     → ((l : ℕ) → get_or ds l [] ≡ cond (slot == l && is_change e) (get_or cs l [] ++ change_of e ∷ []) (get_or cs l []))
     → IsNoted shape events n rs cs → IsNoted shape events (n + 1) ss ds

@@ -1,5 +1,6 @@
 -- The lists that a run's events leave, by line slot and by byte, and what they answer.
-use Rattle.std.specs.Prelude.{◌≡◌, ℕ, ◌+◌, ◌*◌, ◌/◌, ◌%◌, ◌<◌, ◌==◌, ◌&&◌, Bool, true, false, nat_le, nat_lt, List, [], Option, Some, None, if◌then◌else◌, slice_index_or, length, find, All, AllPairs}
+use Rattle.std.specs.Prelude.{◌≡◌, ℕ, ◌+◌, ◌*◌, ◌/◌, ◌%◌, ◌<◌, ◌==◌, ◌&&◌, Bool, true, false, nat_le, nat_lt, List, [], Option, Some, None, if◌then◌else◌}
+use Rattle.std.specs.Prelude.{slice_index_or, length, find, All, AllPairs}
 use Rattle.bit_field.specs.Shapes.{IsShape, slots}
 use Rattle.bit_field.specs.declared.shapes.Shape.{Shape}
 use Rattle.bit_field.specs.Lanes.{has_lane}
@@ -8,10 +9,10 @@ use Rattle.wb_cache.specs.declared.event.EventKind.{EventKind}
 use Rattle.wb_cache.specs.declared.event.EventKind.TheVariants.{Read, Write, Miss, Fill}
 use Rattle.event_log.specs.Cycles as cycles
 use Rattle.event_log.specs.Events.{holds_byte}
-use Rattle.line_life.specs.Nexts.{next_of, told_by}
+use Rattle.event_log.specs.Nexts.{next_of, told_by}
 use Rattle.line_life.specs.declared.changes.Change.{Change}
-use Rattle.line_life.specs.declared.next.Next.{Next}
-use Rattle.line_life.specs.declared.next.Next.TheVariants.{Read as IsRead, Ends}
+use Rattle.event_log.specs.declared.next.Next.{Next}
+use Rattle.event_log.specs.declared.next.Next.TheVariants.{Read as IsRead, Ends}
 
 abbrev pub changes_slot : EventKind → Bool
 changes_slot Read = false

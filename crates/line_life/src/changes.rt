@@ -3,9 +3,9 @@ ghost use Rattle.std.specs.Prelude.{◌≡◌, ◌++◌, ◌∷◌, [], if◌the
 ghost use Rattle.line_life.specs.Lives as lives;
 ghost use Rattle.line_life.specs.Lives.{IsRising};
 
-use crate::next::Next;
 use avf_base::OutOfMemory;
 use bit_field::has_lane;
+use event_log::Next;
 use std::alloc::Global;
 use std::marker::Model;
 use wb_cache::{CacheEvent, EventKind};

@@ -1,16 +1,14 @@
 // What next concerns a cached byte: the lifetime of data in a cache between fill, read, write and evict, after Biswas et al. (ISCA 2005).
 //
-// - next: the answers;
 // - changes: the writes and fills of a line slot;
 // - life: the lists of a whole run, and what is asked of them.
 #![tactic(auto)]
 
 mod changes;
 mod life;
-mod next;
 
+pub use event_log::Next;
 pub use life::{Life, data_life};
-pub use next::Next;
 
 #[cfg(test)]
 mod tests;

@@ -2,16 +2,16 @@
 ghost use Rattle.std.specs.Prelude.{◌≡◌, ◌+◌, ◌*◌, ◌/◌, ◌%◌, ◌<◌, ◌≤◌, ◌++◌, ◌∷◌, ◌==◌, ◌&&◌, ℕ, [], if◌then◌else◌, IfOk, OnOk, length, replicate, slice_index_or};
 ghost use Rattle.bit_field.specs.Shapes.{IsShape, slots};
 ghost use Rattle.wb_cache.specs.Contents.{slot_of};
+ghost use Rattle.event_log.specs.Cycles.{pushed_if};
 ghost use Rattle.event_log.specs.Events as log;
 ghost use Rattle.event_log.specs.Events.{IsEventLog};
 ghost use Rattle.line_life.specs.Lives as lives;
 ghost use Rattle.line_life.specs.Lives.{IsLifeOf, change_of};
 
 use crate::changes::{Change, ChangeList, holds_byte, told};
-use crate::next::Next;
 use avf_base::OutOfMemory;
 use bit_field::Shape;
-use event_log::{CycleList, slot_count, slot_number};
+use event_log::{CycleList, Next, slot_count, slot_number};
 use std::alloc::Global;
 use std::marker::Model;
 use wb_cache::{CacheEvent, EventKind};
@@ -96,7 +96,7 @@ fn no_changes(alloc: Global, count: u32) -> Result<Vec<ChangeList>, OutOfMemory>
 /// Notes a read: its cycle goes behind the lists of the bytes that it holds.
 fn note_read(reads: &mut [CycleList], slot: usize, event: &CacheEvent) -> Result<(), OutOfMemory>
     requires { 16 * slot + 16 ≤ length reads.old }
-    ensures { OnOk result ((k : ℕ) → slice_index_or reads.new k [] ≡ (if slot == k / 16 && log.holds_byte (k % 16) event.now then slice_index_or reads.old k [] ++ event.now.cycle ∷ [] else slice_index_or reads.old k [])) }
+    ensures { OnOk result ((k : ℕ) → slice_index_or reads.new k [] ≡ pushed_if (slot == k / 16 && log.holds_byte (k % 16) event.now) event.now.cycle (slice_index_or reads.old k [])) }
 {
     for byte in 0..16u32 {
         if holds_byte(event.word, event.mask, byte) {
@@ -113,7 +113,7 @@ fn note_change(
     event: &CacheEvent,
 ) -> Result<(), OutOfMemory>
     requires { slot < length changes.old }
-    ensures { OnOk result ((l : ℕ) → slice_index_or changes.new l [] ≡ (if slot == l then slice_index_or changes.old l [] ++ change_of event.now ∷ [] else slice_index_or changes.old l [])) }
+    ensures { OnOk result ((l : ℕ) → slice_index_or changes.new l [] ≡ pushed_if (slot == l) (change_of event.now) (slice_index_or changes.old l [])) }
 {
     changes[slot].push(event)
 }
@@ -127,8 +127,8 @@ fn note(
 ) -> Result<(), OutOfMemory>
     requires reads { 16 * slot + 16 ≤ length reads.old }
     requires changes { slot < length changes.old }
-    ensures read { OnOk result ((k : ℕ) → slice_index_or reads.new k [] ≡ (if slot == k / 16 && lives.reads_byte (k % 16) event.now then slice_index_or reads.old k [] ++ event.now.cycle ∷ [] else slice_index_or reads.old k [])) }
-    ensures changed { OnOk result ((l : ℕ) → slice_index_or changes.new l [] ≡ (if slot == l && lives.is_change event.now then slice_index_or changes.old l [] ++ change_of event.now ∷ [] else slice_index_or changes.old l [])) }
+    ensures read { OnOk result ((k : ℕ) → slice_index_or reads.new k [] ≡ pushed_if (slot == k / 16 && lives.reads_byte (k % 16) event.now) event.now.cycle (slice_index_or reads.old k [])) }
+    ensures changed { OnOk result ((l : ℕ) → slice_index_or changes.new l [] ≡ pushed_if (slot == l && lives.is_change event.now) (change_of event.now) (slice_index_or changes.old l [])) }
 {
     match event.kind {
         EventKind::Read => note_read(reads, slot, event),

@@ -10,7 +10,8 @@ use Rattle.rv_table.specs.Effects.{written_register, byte_put}
 use Rattle.rv_table.specs.Operations.{operation_of}
 use Rattle.rv_table.specs.declared.action.Action.{Action}
 use Rattle.rv_table.specs.declared.op.Op.{Op}
-use Rattle.need_pass.specs.Law.{seen, IsWords}
+use Rattle.need_pass.specs.Law.{seen}
+use Rattle.rv_isa.specs.Words.{IsWords}
 use Rattle.rv_isa.specs.Accesses.{next_action}
 use Rattle.need_pass.specs.Links.{Link, LinkA, LinkB, LinkLoaded, writes, is_register, has_byte, byte_number, stored_bytes}
 use Rattle.need_pass.specs.Needed.{Root, RootA, RootB, Needed, Agrees}
@@ -20,7 +21,9 @@ use Rattle.rv_isa.proofs.Fetched.{fetched_fields}
 use Rattle.need_pass.proofs.Passes.{needed_bit}
 use Rattle.need_pass.proofs.TwinEffects.{IsAllowed, allowed, same_access, same_put, same_end, same_register, same_given, same_memory}
 use Rattle.need_pass.proofs.Twins.{Twins, asked_twins, judged_twins}
-use Rattle.need_pass.proofs.OneStep.{same_operand, operand_below, writes_is, put_reg-at, loaded_below, done_at, same_clocks, same_address, registers_next, memory_next, pc_next, count_next, clocks_next, seen_by, write_recorded}
+use Rattle.rv_isa.proofs.Ranges.{operand_below}
+use Rattle.rv_isa.proofs.NextState.{registers_next, memory_next, pc_next, count_next, clocks_next}
+use Rattle.need_pass.proofs.OneStep.{same_operand, writes_is, put_reg-at, loaded_below, done_at, same_clocks, same_address, seen_by, write_recorded}
 
 -- The two states, of which s is recorded, and the instruction that both are at.
 module _ (image : LoadedImage) (t : List Retired) (s u : State) (is : IsImage image) (ws : IsWords s) (wu : IsWords u) (agree : Agrees (retired_at image s ∷ t) s u) where

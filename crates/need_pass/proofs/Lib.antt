@@ -1,14 +1,13 @@
 pub mod Accessed
 pub mod Agreement
 pub mod ByteBits
+pub mod Facts
 pub mod Histories
 pub mod Immediates
 pub mod MaskBits
 pub mod NeedLaw
 pub mod OneStep
 pub mod Passes
-pub mod Ranges
-pub mod Results
 pub mod SameAccess
 pub mod SameAlu
 pub mod SameResult

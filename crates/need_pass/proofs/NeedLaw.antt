@@ -1,5 +1,6 @@
 -- The need law, along a recorded run.
-use Rattle.std.proofs.Common.{◌≡◌, ℕ, zero, suc, ◌+◌, ◌^◌, ◌<◌, ◌≤◌, List, ◌∷◌, length, drop, refl, sym, ◌∙◌, ap, subst, arith}
+use Rattle.std.specs.Prelude.{slice_get}
+use Rattle.std.proofs.Common.{◌≡◌, ◌≢◌, true, [], Some, ℕ, zero, suc, ◌+◌, ◌^◌, ◌<◌, ◌≤◌, List, ◌∷◌, length, drop, refl, sym, ◌∙◌, ap, subst, arith}
 use Rattle.std.specs.List.{All}
 use Rattle.std.proofs.lemmas.List.{drop_more}
 use Rattle.std.proofs.lemmas.Option.{get_or_from_slice_get}
@@ -9,10 +10,25 @@ use Rattle.rv_isa.specs.Effects.{retired_at}
 use Rattle.rv_isa.specs.Instruction.{State, instruction}
 use Rattle.rv_isa.specs.Runs.{ProgramTrace, IsTrace, reset, trace_at}
 use Rattle.rv_isa.specs.declared.effect.Retired.{Retired}
-use Rattle.need_pass.specs.Law.{IsWords, seen, seen_of, NeedLaw}
-use Rattle.need_pass.specs.Needed.{Agrees}
+use Rattle.rv_isa.specs.Accesses.{line_of, next_line}
+use Rattle.need_pass.proofs.Accessed.{loaded_line, needed_loaded}
+use Rattle.need_pass.specs.Links.{loads}
+use Rattle.need_pass.specs.ProgramBits.{Byte}
+use Rattle.need_pass.specs.Law.{seen, seen_of, NeedLaw}
+use Rattle.need_pass.specs.Needed.{Agrees, Needed}
 use Rattle.need_pass.proofs.Agreement.{same_seen, agrees_next}
-use Rattle.need_pass.proofs.Ranges.{words_next, words_reset, words_after}
+use Rattle.rv_isa.specs.Words.{IsWords}
+use Rattle.rv_isa.proofs.Ranges.{words_next, words_reset, words_after}
+
+get-drop : (xs : List Retired) (i j : ℕ) (x : Retired) → slice_get (drop i xs) j ≡ Some x → slice_get xs (i + j) ≡ Some x
+get-drop xs zero j x e = let same : 0 + j ≡ j = omega arith in ap (slice_get xs) same ∙ e
+get-drop [] (suc i) j x e = absurd cc
+get-drop (y ∷ xs) (suc i) j x e = let same : suc (i + j) ≡ suc i + j = omega arith in ap (slice_get (y ∷ xs)) (sym same) ∙ get-drop xs i j x e
+
+get-below : (xs : List Retired) (i : ℕ) (x : Retired) → slice_get xs i ≡ Some x → i < length xs
+get-below [] i x e = absurd cc
+get-below (y ∷ xs) zero x e = omega arith
+get-below (y ∷ xs) (suc i) x e = let later : i < length xs = get-below xs i x e in omega arith
 
 module _ (image : LoadedImage) (clocks : List ℕ) (run : ProgramTrace) (is : IsImage image) (fit : All (λ c. c < 2 ^ 32) clocks) (trace : IsTrace image clocks run) where
   recorded_words : (i : ℕ) → IsWords (trace_at image clocks i)
@@ -45,5 +61,14 @@ module _ (image : LoadedImage) (clocks : List ℕ) (run : ProgramTrace) (is : Is
       ap (λ x. x ∷ seen_of image n (instruction image at)) (sees i at m w a)
       ∙ ap (λ x. seen image (trace_at image clocks i) ∷ x) (runs (i + 1) n (instruction image at) (omega arith) (words_next image at is w) (agrees i at m w a) ∙ ap (seen_of image n) (recorded_next i m))
 
+  unneeded : (i p k : ℕ) → ((j : ℕ) → i ≤ j → j < length run.entries → next_line image (trace_at image clocks j) ≢ Some (line_of p)) → Needed (drop i run.entries) (Byte p k) → ⊥
+  unneeded i p k quiet needed =
+      let (j, entry, found, loaded) = needed_loaded (drop i run.entries) p k needed in
+      let at : slice_get run.entries (i + j) ≡ Some entry = get-drop run.entries i j entry found in
+      let within : i + j < length run.entries = get-below run.entries (i + j) entry at in
+      let here : retired_at image (trace_at image clocks (i + j)) ≡ entry = cc (at, trace.retired (i + j) within) in
+      quiet (i + j) (omega arith) within
+      (loaded_line image (trace_at image clocks (i + j)) p (subst (λ (e : Retired). loads e p ≡ true) (sym here) loaded))
+
   pub need_law : NeedLaw image clocks run.entries
-  need_law = record { sees = sees; words = λ at w. words_next image at is w; agrees = agrees; runs = runs }
+  need_law = record { sees = sees; words = λ at w. words_next image at is w; agrees = agrees; runs = runs; unneeded = unneeded }

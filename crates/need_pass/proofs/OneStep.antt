@@ -1,5 +1,5 @@
 -- One instruction, field by field: the registers, the operands, and what is recorded of it.
-use Rattle.std.proofs.Common.{◌≡◌, ◌≢◌, ℕ, ◌+◌, ◌*◌, ◌/◌, ◌^◌, ◌<◌, ◌≤◌, Bool, true, false, cond, eqb, refl, ◌∙◌, ap, arith, inl, inr, lit<}
+use Rattle.std.proofs.Common.{◌≡◌, ◌≢◌, ℕ, ◌+◌, ◌*◌, ◌/◌, ◌^◌, ◌<◌, ◌≤◌, Bool, true, false, cond, eqb, refl, ◌∙◌, ap, arith, inl, inr}
 use Rattle.std.specs.Int.{bit_at}
 use Rattle.std.specs.Prelude.{Option, Some, None, ◌&&◌}
 use Rattle.std.proofs.lemmas.Bool.{cases_eq, false≢true}
@@ -8,9 +8,9 @@ use Rattle.avf_base.specs.declared.end.End.{End}
 use Rattle.elf_load.specs.Image.{LoadedImage, IsImage, word_in_ram}
 use Rattle.rv_isa.proofs.Allowed.{word_below}
 use Rattle.rv_isa.specs.Effects.{write_of, load_of, store_of, retired_at, effect_of, effect_by, operand_b}
-use Rattle.rv_isa.specs.Instruction.{State, reg, put_reg, given, memory_after, instruction, completed, op_at, action_in, first_clock, later_clocks, next_count}
+use Rattle.rv_isa.specs.Instruction.{State, reg, put_reg, given, action_in, first_clock}
 use Rattle.rv_table.specs.Accesses.{load_size}
-use Rattle.rv_table.specs.Actions.{next_address, next_word, is_aligned, taken_by, target_by, counter_by, with_counter, is_clocked}
+use Rattle.rv_table.specs.Actions.{next_address, next_word, is_aligned, taken_by, target_by, counter_by, with_counter}
 use Rattle.rv_table.specs.Effects.{written_register}
 use Rattle.rv_table.specs.Operations.{operation_of}
 use Rattle.rv_table.specs.declared.action.Access.{Access}
@@ -35,10 +35,6 @@ not_zero r n = grind (arith, nat_tests)
 pub same_operand : (f g : ℕ → ℕ) (r k : ℕ) → (0 < r → bit_at (f r) k ≡ bit_at (g r) k) → bit_at (reg f r) k ≡ bit_at (reg g r) k
 same_operand f g r k same =
     elim (cases_eq r 0) [ inl e ↦ rw e refl | inr n ↦ rw (not_zero r n) (same (omega arith)) ]
-
-pub operand_below : (f : ℕ → ℕ) (r : ℕ) → ((s : ℕ) → f s < 2 ^ 32) → reg f r < 2 ^ 32
-operand_below f r h =
-    elim (cases_eq r 0) [ inl e ↦ rw e (lit< tt) | inr n ↦ rw (not_zero r n) (h r) ]
 
 -- whether a register is written, and what it holds then
 pub writes_is : (image : LoadedImage) (x : Action) (f : ℕ → ℕ) (r : ℕ) → 0 < r → is_register (write_of image x f) r ≡ eqb r (written_register x)
@@ -87,26 +83,6 @@ same_address op pc clock count a b c d ha hb hc hd ra rb =
     let o = operation_of op.code in
     ap (λ t. next_by t (target_by o op (4 * pc) a (counter_by o clock count b)) pc) (same_taken o op clock count a b c d ha hb hc hd ra rb)
     ∙ ap (λ x. next_by (taken_by o c (counter_by o clock count d)) x pc) (same_target_by o op (4 * pc) clock count a b c d ha hb hc hd ra rb)
-
-pub registers_next : (image : LoadedImage) (at : State) → (instruction image at).registers ≡ put_reg (written_register (next_action image at)) (given image (next_action image at) at.memory) at.registers
-unfolding instruction completed
-registers_next image at = refl
-
-pub memory_next : (image : LoadedImage) (at : State) → (instruction image at).memory ≡ memory_after image (next_action image at) at.memory
-unfolding instruction completed
-memory_next image at = refl
-
-pub pc_next : (image : LoadedImage) (at : State) → (instruction image at).pc ≡ next_address (op_at image at.pc) at.pc (reg at.registers (op_at image at.pc).rs1) (operand_b (op_at image at.pc) at)
-unfolding instruction completed
-pc_next image at = refl
-
-pub count_next : (image : LoadedImage) (at : State) → (instruction image at).count ≡ next_count at.count
-unfolding instruction completed
-count_next image at = refl
-
-pub clocks_next : (image : LoadedImage) (at : State) → (instruction image at).clocks ≡ cond (is_clocked (op_at image at.pc)) (later_clocks at.clocks) at.clocks
-unfolding instruction completed
-clocks_next image at = refl
 
 abbrev pub seen_by : ℕ → Option Access → Option ℕ → Option End → Seen
 seen_by pc access byte end = record { pc = pc; access = access; byte = byte; end = end }

@@ -1,10 +1,12 @@
 -- Non-interference of loads and stores at one bit.
-use Rattle.std.proofs.Common.{◌≡◌, ℕ, ◌+◌, ◌-◌, ◌*◌, ◌/◌, ◌%◌, ◌^◌, ◌<◌, ◌≤◌, true, false, ltb, [], ◌∷◌, refl, sym, ◌∙◌, ap, arith, eq-eqb, inl, inr, lit<}
+use Rattle.std.proofs.Common.{◌≡◌, ℕ, ◌+◌, ◌-◌, ◌*◌, ◌/◌, ◌%◌, ◌^◌, ◌<◌, ◌≤◌, true, false, ltb, [], ◌∷◌, refl, sym, ◌∙◌, ap, arith, inl, inr, lit<}
 use Rattle.std.specs.Int.{bit_at, from_le_bytes, w32}
 use Rattle.std.proofs.lemmas.Bool.{cases_lt}
 use Rattle.std.proofs.lemmas.Bool.Decides.{nat_tests}
 use Rattle.std.proofs.lemmas.Nat.Bits.{bit_at_above, bit_at_ones, bit_at_cat_low, bit_at_cat_high}
 use Rattle.bit_field.proofs.Low.{bit_at-mod, bit_at-shr}
+use Rattle.rv_table.proofs.Ranges.{half_below}
+use Rattle.rv_table.proofs.Loads.{accessed}
 use Rattle.rv_table.specs.Accesses.{accesses, byte_of, load_size, loaded, extended_byte, extended_half, half_at, word_at, word_of_bytes}
 use Rattle.rv_table.specs.declared.operation.LoadKind.{LoadKind}
 use Rattle.rv_table.specs.declared.operation.LoadKind.TheVariants.{Lb, Lh, Lw, Lbu, Lhu}
@@ -14,10 +16,6 @@ use Rattle.need_pass.proofs.ByteBits.{word_bits, each_of_four}
 -- where two memories agree, in the bits of the accessed bytes of which P holds
 abbrev SameBytes : ℕ → ℕ → (ℕ → Type 0) → (ℕ → ℕ) → (ℕ → ℕ) → Type 0
 SameBytes size x P f g = (p k : ℕ) → accesses size x p ≡ true → k < 8 → P (8 * (p % size) + k) → bit_at (f p) k ≡ bit_at (g p) k
-
-accessed : (size x p : ℕ) → p / size ≡ x / size → accesses size x p ≡ true
-unfolding accesses
-accessed size x p e = eq-eqb (p / size) (x / size) e
 
 byte_same : (x m : ℕ) (P : ℕ → Type 0) (f g : ℕ → ℕ) → SameBytes 1 x P f g → m < 8 → P m → bit_at (f x) m ≡ bit_at (g x) m
 byte_same x m P f g same l p = let e : 8 * (x % 1) + m ≡ m = omega arith in same x m (accessed 1 x x refl) l (rw e p)
@@ -40,9 +38,6 @@ half_same x m P f g hf hg same l p =
           let e : 8 * ((y + 1) % 2) + (m - 8) ≡ m = omega arith in
           half_high (f y) (f (y + 1)) m (hf y) b ∙ same (y + 1) (m - 8) (accessed 2 x (y + 1) (omega arith)) (omega arith) (rw e p) ∙ sym (half_high (g y) (g (y + 1)) m (hg y) b)
     ]
-
-half_below : (x : ℕ) (f : ℕ → ℕ) → ((p : ℕ) → f p < 2 ^ 8) → half_at x f < 2 ^ 16
-half_below x f h = omega (arith, h (x / 2 * 2), h (x / 2 * 2 + 1))
 
 -- a word of four bytes
 as_bytes : (b : ℕ → ℕ) → word_of_bytes b ≡ from_le_bytes w32 (b 0 ∷ b 1 ∷ b 2 ∷ b 3 ∷ [])

@@ -3,13 +3,13 @@ use Rattle.std.proofs.Common.{◌≡◌, ◌⊎◌, ℕ, ◌+◌, ◌-◌, ◌*�
 use Rattle.std.specs.Int.{bit_at}
 use Rattle.std.specs.Prelude.{min, max}
 use Rattle.std.proofs.lemmas.Bool.{cases_lt, cases_eq}
-use Rattle.std.proofs.lemmas.Nat.Bits.{bit_at-lt, bit_at_and, bit_at_or, bit_at_above}
+use Rattle.std.proofs.lemmas.Nat.Bits.{bit_at-lt, bit_at_and, bit_at_or, bit_at_above, same_from_bits_below}
 use Rattle.bit_field.proofs.Low.{same_rest}
 use Rattle.rv_table.specs.Arithmetic.{alu, shift_signed}
 use Rattle.rv_table.specs.declared.operation.AluKind.{AluKind}
 use Rattle.rv_table.specs.declared.operation.AluKind.TheVariants.{Add, Sub, Sll, Xor, Srl, Sra, Or, And, Mul}
 use Rattle.need_pass.specs.Links.{FromA, FromB, FromImmediate}
-use Rattle.need_pass.proofs.SameResult.{same_add, same_sub, same_mul, same_xor, same_and, same_or, same_shl, same_shr, same_all}
+use Rattle.need_pass.proofs.SameResult.{same_add, same_sub, same_mul, same_xor, same_and, same_or, same_shl, same_shr}
 use Rattle.need_pass.proofs.SignedShift.{shift_signed-low, shift_signed-high}
 
 -- the amount, from its five bits
@@ -29,7 +29,7 @@ same_shift_signed a c n j h g l m same =
 -- where every bit has a link to every bit
 whole : (kind : AluKind) (a b c d j : ℕ) → a < 2 ^ 32 → b < 2 ^ 32 → c < 2 ^ 32 → d < 2 ^ 32 → ((k : ℕ) → k < 32 → bit_at a k ≡ bit_at c k) → ((k : ℕ) → k < 32 → bit_at b k ≡ bit_at d k) → bit_at (alu kind a b) j ≡ bit_at (alu kind c d) j
 whole kind a b c d j ha hb hc hd sa sb =
-    ap (λ x. bit_at (alu kind x b) j) (same_all a c ha hc sa) ∙ ap (λ x. bit_at (alu kind c x) j) (same_all b d hb hd sb)
+    ap (λ x. bit_at (alu kind x b) j) (same_from_bits_below 32 a c ha hc sa) ∙ ap (λ x. bit_at (alu kind c x) j) (same_from_bits_below 32 b d hb hd sb)
 
 pub same_alu : (kind : AluKind) (a b c d j : ℕ) → a < 2 ^ 32 → b < 2 ^ 32 → c < 2 ^ 32 → d < 2 ^ 32 → j < 32 → ((k : ℕ) → k < 32 → FromA kind a b k j → bit_at a k ≡ bit_at c k) → ((k : ℕ) → k < 32 → FromB kind a b k j → bit_at b k ≡ bit_at d k) → bit_at (alu kind a b) j ≡ bit_at (alu kind c d) j
 unfolding alu

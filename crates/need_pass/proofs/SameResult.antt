@@ -2,19 +2,9 @@
 use Rattle.std.proofs.Common.{◌≡◌, ◌⊎◌, ℕ, ◌+◌, ◌-◌, ◌*◌, ◌/◌, ◌%◌, ◌^◌, ◌<◌, ◌≤◌, refl, sym, ◌∙◌, ap, arith, inl, inr}
 use Rattle.std.specs.Int.{bit_at, bit_not, w32}
 use Rattle.std.specs.Prelude.{bit_and, bit_or, bit_xor}
-use Rattle.std.proofs.Math.Nat.{mod-add-mod, add-mod-mod}
 use Rattle.std.proofs.lemmas.Bool.{cases_lt, cases_eq}
-use Rattle.std.proofs.lemmas.Nat.{mul-mod_first, mul-mod_second}
 use Rattle.std.proofs.lemmas.Nat.Bits.{bit_at-lt, bit_at_and, bit_at_or, bit_at_xor, bit_at_not, same_from_bits_below}
-use Rattle.bit_field.proofs.Low.{bit_at-mod, bit_at-shr, bit_at-shl_low, bit_at-shl_high, same_rest, same_bit}
-
-same_sum : (m a b c d : ℕ) → a % m ≡ c % m → b % m ≡ d % m → (a + b) % m ≡ (c + d) % m
-same_sum m a b c d e f =
-    sym (mod-add-mod a m b) ∙ sym (add-mod-mod (a % m) b m) ∙ ap (λ x. (x + b % m) % m) e ∙ ap (λ x. (c % m + x) % m) f ∙ add-mod-mod (c % m) d m ∙ mod-add-mod c m d
-
-same_product : (m a b c d : ℕ) → a % m ≡ c % m → b % m ≡ d % m → (a * b) % m ≡ (c * d) % m
-same_product m a b c d e f =
-    sym (mul-mod_first a b m) ∙ sym (mul-mod_second (a % m) b m) ∙ ap (λ x. (x * (b % m)) % m) e ∙ ap (λ x. (c % m * x) % m) f ∙ mul-mod_second (c % m) d m ∙ mul-mod_first c d m
+use Rattle.bit_field.proofs.Low.{bit_at-mod, bit_at-shr, bit_at-shl_low, bit_at-shl_high, same_bit, same_product, same_rest, same_sum}
 
 -- the lowest j + 1 bits
 rest_of : (j a b : ℕ) → ((k : ℕ) → k ≤ j → bit_at a k ≡ bit_at b k) → a % 2 ^ (j + 1) ≡ b % 2 ^ (j + 1)
@@ -83,7 +73,3 @@ same_shl a c n j l same =
 
 pub same_shr : (a c n j : ℕ) → bit_at a (n + j) ≡ bit_at c (n + j) → bit_at (a / 2 ^ n) j ≡ bit_at (c / 2 ^ n) j
 same_shr a c n j e = bit_at-shr a n j ∙ e ∙ sym (bit_at-shr c n j)
-
--- all bits the same, the same number
-pub same_all : (a c : ℕ) → a < 2 ^ 32 → c < 2 ^ 32 → ((k : ℕ) → k < 32 → bit_at a k ≡ bit_at c k) → a ≡ c
-same_all a c h g same = same_from_bits_below 32 a c h g same

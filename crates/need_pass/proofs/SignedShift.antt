@@ -1,23 +1,15 @@
 -- The bits of a signed shift to the right.
-use Rattle.std.proofs.Common.{◌≡◌, ℕ, zero, suc, ◌+◌, ◌-◌, ◌*◌, ◌/◌, ◌^◌, ◌<◌, ◌≤◌, true, false, ltb, sym, ◌∙◌, ap, arith, inl, inr, pow-add}
+use Rattle.std.proofs.Common.{◌≡◌, ℕ, zero, suc, ◌+◌, ◌-◌, ◌*◌, ◌/◌, ◌^◌, ◌<◌, ◌≤◌, true, false, ltb, sym, ◌∙◌, arith, inl, inr}
 use Rattle.std.specs.Int.{bit_at}
 use Rattle.std.proofs.Math.Nat.{mul_comm, suc-mul}
 use Rattle.std.proofs.lemmas.Bool.{cases_lt}
 use Rattle.std.proofs.lemmas.Bool.Decides.{nat_tests}
-use Rattle.std.proofs.lemmas.Nat.{shr_below, pow_pos}
+use Rattle.std.proofs.lemmas.Nat.{pow_pos}
 use Rattle.std.proofs.lemmas.Nat.Bits.{bit_at_above, bit_at_ones, bit_at_cat_low, bit_at_cat_high}
 use Rattle.bit_field.proofs.Low.{bit_at-shr}
 use Rattle.rv_table.specs.Arithmetic.{shift_signed}
-
-power_split : (n : ℕ) → n < 32 → 2 ^ (32 - n) * 2 ^ n ≡ 2 ^ 32
-power_split n h =
-    let e : 32 - n + n ≡ 32 = omega arith in
-    sym (pow-add 2 (32 - n) n) ∙ ap (λ k. 2 ^ k) e
-
-pub part_below : (a n : ℕ) → a < 2 ^ 32 → n < 32 → a / 2 ^ n < 2 ^ (32 - n)
-part_below a n h l =
-    let e : 32 - n + n ≡ 32 = omega arith in
-    shr_below a (32 - n) n (rw e h)
+use Rattle.rv_table.proofs.Results.{part_below}
+use Rattle.rv_table.proofs.Signed.{power_split}
 
 -- the copies of the sign, above what is left of the number
 pub high_part : (p q w x : ℕ) → q * p ≡ w → 0 < p → x + (w - q) ≡ (p - 1) * q + x

@@ -3,7 +3,7 @@ use Rattle.std.proofs.Common.{◌≡◌, ◌≢◌, ◌⊎◌, ℕ, ◌+◌, ◌
 use Rattle.std.specs.Int.{bit_at}
 use Rattle.std.specs.Prelude.{not, ◌&&◌, ◌==◌}
 use Rattle.std.proofs.lemmas.Bool.{cases_eq}
-use Rattle.std.proofs.lemmas.Nat.Bits.{same_from_bits_below}
+use Rattle.std.proofs.lemmas.Nat.Bits.{same_from_bits_below, same_from_bits_below}
 use Rattle.bit_field.proofs.Low.{bit_at-shr, same_rest}
 use Rattle.rv_table.specs.Accesses.{load_size, store_size}
 use Rattle.rv_table.specs.Actions.{holds, value_by, taken_by, target_by, misses_target, called, load_asked, store_asked, asked_by, judged, counter_by, is_aligned, some_executable}
@@ -19,7 +19,6 @@ use Rattle.rv_table.specs.declared.operation.Operation.TheVariants.{Illegal, Fet
 use Rattle.need_pass.specs.Links.{LinkA, LinkB}
 use Rattle.need_pass.specs.Needed.{RootA, RootB}
 use Rattle.need_pass.proofs.SameAlu.{same_alu, same_immediate}
-use Rattle.need_pass.proofs.SameResult.{same_all}
 
 -- Two actions of an operation o, from the operands a and b and from c and d.
 pub data Twins (o : Operation) (op : Op) (a b c d : ℕ) : Action → Action → Type 0 where
@@ -38,7 +37,7 @@ even_target a c imm even e = omega arith
 same_target : (a c imm : ℕ) → a < 2 ^ 32 → c < 2 ^ 32 → ((k : ℕ) → k < 32 → (0 < k) ⊎ (imm % 2 ≡ 1) → bit_at a k ≡ bit_at c k) → sum32 a imm / 2 * 2 ≡ sum32 c imm / 2 * 2
 same_target a c imm ha hc same =
     elim (cases_eq (imm % 2) 1) [
-      | inl odd ↦ ap (λ x. sum32 x imm / 2 * 2) (same_all a c ha hc (λ k l. same k l (inr odd)))
+      | inl odd ↦ ap (λ x. sum32 x imm / 2 * 2) (same_from_bits_below 32 a c ha hc (λ k l. same k l (inr odd)))
       | inr even ↦
           let e : a / 2 ≡ c / 2 = same_from_bits_below 31 (a / 2) (c / 2) (omega arith) (omega arith) (λ k l. bit_at-shr a 1 k ∙ same (1 + k) (omega arith) (inl (omega arith)) ∙ sym (bit_at-shr c 1 k)) in
           even_target a c imm even e
@@ -49,14 +48,14 @@ same_target a c imm ha hc same =
 pub same_taken : (o : Operation) (op : Op) (clock count a b c d : ℕ) → a < 2 ^ 32 → b < 2 ^ 32 → c < 2 ^ 32 → d < 2 ^ 32 → ((k : ℕ) → k < 32 → RootA o op k → bit_at a k ≡ bit_at c k) → ((k : ℕ) → k < 32 → RootB o a k → bit_at b k ≡ bit_at d k) → taken_by o a (counter_by o clock count b) ≡ taken_by o c (counter_by o clock count d)
 unfolding taken_by counter_by
 same_taken (Branch kind) op clock count a b c d ha hb hc hd ra rb =
-    ap (λ x. holds kind x b) (same_all a c ha hc (λ k l. ra k l tt)) ∙ ap (λ x. holds kind c x) (same_all b d hb hd (λ k l. rb k l tt))
+    ap (λ x. holds kind x b) (same_from_bits_below 32 a c ha hc (λ k l. ra k l tt)) ∙ ap (λ x. holds kind c x) (same_from_bits_below 32 b d hb hd (λ k l. rb k l tt))
 same_taken _ op clock count a b c d ha hb hc hd ra rb = refl
 
 pub same_target_by : (o : Operation) (op : Op) (at clock count a b c d : ℕ) → a < 2 ^ 32 → b < 2 ^ 32 → c < 2 ^ 32 → d < 2 ^ 32 → ((k : ℕ) → k < 32 → RootA o op k → bit_at a k ≡ bit_at c k) → ((k : ℕ) → k < 32 → RootB o a k → bit_at b k ≡ bit_at d k) → target_by o op at a (counter_by o clock count b) ≡ target_by o op at c (counter_by o clock count d)
 unfolding target_by counter_by
 same_target_by Jalr op at clock count a b c d ha hb hc hd ra rb = same_target a c op.imm ha hc ra
 same_target_by (Branch kind) op at clock count a b c d ha hb hc hd ra rb =
-    ap (λ x. target_by (Branch kind) op at x b) (same_all a c ha hc (λ k l. ra k l tt)) ∙ ap (λ x. target_by (Branch kind) op at c x) (same_all b d hb hd (λ k l. rb k l tt))
+    ap (λ x. target_by (Branch kind) op at x b) (same_from_bits_below 32 a c ha hc (λ k l. ra k l tt)) ∙ ap (λ x. target_by (Branch kind) op at c x) (same_from_bits_below 32 b d hb hd (λ k l. rb k l tt))
 same_target_by _ op at clock count a b c d ha hb hc hd ra rb = refl
 
 -- ---- what an operation asks for
@@ -106,18 +105,18 @@ asked_twins Jalr op pc clock count a b c d ha hb hc hd hi ra rb =
     subst (λ (x : ℕ). Twins Jalr op a b c d (cond (not (is_aligned 4 (sum32 a op.imm / 2 * 2))) (Traps 2) (Writes op.rd (sum32 (4 * pc) 4))) (cond (not (is_aligned 4 x)) (Traps 2) (Writes op.rd (sum32 (4 * pc) 4)))) (same_target a c op.imm ha hc ra) (jump_twins Jalr op a b c d (not (is_aligned 4 (sum32 a op.imm / 2 * 2))) op.rd (sum32 (4 * pc) 4))
 asked_twins (Branch kind) op pc clock count a b c d ha hb hc hd hi ra rb =
     let P : ℕ → ℕ → Type 0 = λ x y. Twins (Branch kind) op a b c d (asked_by (Branch kind) op pc a b) (asked_by (Branch kind) op pc x y) in
-    subst (λ (y : ℕ). P c y) (same_all b d hb hd (λ k l. rb k l tt)) (subst (λ (x : ℕ). P x b) (same_all a c ha hc (λ k l. ra k l tt)) (jump_twins (Branch kind) op a b c d (misses_target (Branch kind) op pc a b) 0 0))
+    subst (λ (y : ℕ). P c y) (same_from_bits_below 32 b d hb hd (λ k l. rb k l tt)) (subst (λ (x : ℕ). P x b) (same_from_bits_below 32 a c ha hc (λ k l. ra k l tt)) (jump_twins (Branch kind) op a b c d (misses_target (Branch kind) op pc a b) 0 0))
 asked_twins (Load kind) op pc clock count a b c d ha hb hc hd hi ra rb =
-    subst (λ (x : ℕ). Twins (Load kind) op a b c d (load_asked kind op.rd (sum32 a op.imm)) (load_asked kind op.rd (sum32 x op.imm))) (same_all a c ha hc (λ k l. ra k l tt)) (load_twins kind op a b c d op.rd (sum32 a op.imm))
+    subst (λ (x : ℕ). Twins (Load kind) op a b c d (load_asked kind op.rd (sum32 a op.imm)) (load_asked kind op.rd (sum32 x op.imm))) (same_from_bits_below 32 a c ha hc (λ k l. ra k l tt)) (load_twins kind op a b c d op.rd (sum32 a op.imm))
 asked_twins (Store kind) op pc clock count a b c d ha hb hc hd hi ra rb =
-    subst (λ (x : ℕ). Twins (Store kind) op a b c d (store_asked kind (sum32 a op.imm) b) (store_asked kind (sum32 x op.imm) d)) (same_all a c ha hc (λ k l. ra k l tt)) (store_twins (Store kind) kind op a b c d (sum32 a op.imm))
+    subst (λ (x : ℕ). Twins (Store kind) op a b c d (store_asked kind (sum32 a op.imm) b) (store_asked kind (sum32 x op.imm) d)) (same_from_bits_below 32 a c ha hc (λ k l. ra k l tt)) (store_twins (Store kind) kind op a b c d (sum32 a op.imm))
 asked_twins (AluImmediate kind) op pc clock count a b c d ha hb hc hd hi ra rb =
     writes op.rd (alu kind a op.imm) (alu kind c op.imm) (λ j l sa sb. same_immediate kind a c op.imm j ha hc hi l sa)
 asked_twins (Alu kind) op pc clock count a b c d ha hb hc hd hi ra rb =
     writes op.rd (alu kind a b) (alu kind c d) (λ j l sa sb. same_alu kind a b c d j ha hb hc hd l sa sb)
 asked_twins Fence op pc clock count a b c d ha hb hc hd hi ra rb = given Fence op a b c d 0 0
 asked_twins Ecall op pc clock count a b c d ha hb hc hd hi ra rb =
-    subst (λ (x : ℕ). Twins Ecall op a b c d (called a b) (called x d)) (same_all a c ha hc (λ k l. ra k l tt)) (call_twins Ecall op a b c d a b d rb)
+    subst (λ (x : ℕ). Twins Ecall op a b c d (called a b) (called x d)) (same_from_bits_below 32 a c ha hc (λ k l. ra k l tt)) (call_twins Ecall op a b c d a b d rb)
 asked_twins Ebreak op pc clock count a b c d ha hb hc hd hi ra rb = traps 7
 asked_twins (ReadCounter Cycle) op pc clock count a b c d ha hb hc hd hi ra rb = given (ReadCounter Cycle) op a b c d op.rd clock
 asked_twins (ReadCounter Instret) op pc clock count a b c d ha hb hc hd hi ra rb = given (ReadCounter Instret) op a b c d op.rd count

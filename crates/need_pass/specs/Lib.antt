@@ -2,6 +2,7 @@ pub mod Histories
 pub mod Law
 pub mod Links
 pub mod Masks
+pub mod NeedFacts
 pub mod Needed
 pub mod ProgramBits
 pub mod Steps

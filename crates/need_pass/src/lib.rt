@@ -19,7 +19,7 @@ mod pass;
 mod register_histories;
 mod table;
 
-pub use table::{NeedTable, needs};
+pub use table::{NeedTable, need_facts, needs};
 
 #[cfg(test)]
 mod tests;

@@ -2,6 +2,7 @@
 ghost use Rattle.need_pass.specs.Tables as tables;
 ghost use Rattle.need_pass.specs.Tables.{IsNeedOf};
 ghost use Rattle.need_pass.specs.Law.{HasNeedLaw};
+ghost use Rattle.need_pass.specs.NeedFacts.{NeedFacts};
 ghost use Rattle.std.specs.Prelude.{IfOk, [], replicate, ◌<◌, ◌≡◌, ◌≤◌};
 
 use crate::byte_histories::byte_at;
@@ -92,3 +93,8 @@ pub fn needs(alloc: Global, trace: &Trace) -> Result<NeedTable, OutOfMemory>
         bytes,
     })
 }
+
+/// Says what is known of needed bits without working them out. It does nothing.
+pub fn need_facts()
+    ensures { NeedFacts }
+{}

@@ -12,52 +12,9 @@ use std::process::Abort;
 use std::sync::ledger::{Blank, Ledger};
 use std::test::Fail;
 
-/// The ELF32 header and one program header: an executable for RISC-V with one executable segment at 0x10000, which stands
-/// at offset 84 and is entered at its start. The segment's two sizes, at bytes 68 and 72, are left 0.
-const HEADERS: [u32; 21] = [
-    0x464C_457F,
-    0x0001_0101,
-    0,
-    0,
-    0x00F3_0002,
-    1,
-    0x1_0000,
-    52,
-    0,
-    0,
-    0x0020_0034,
-    1,
-    0,
-    1,
-    84,
-    0x1_0000,
-    0x1_0000,
-    0,
-    0,
-    5,
-    4,
-];
-
-fn push_word(file: &mut Vec<u8>, word: u32) -> Result<(), Fail> {
-    file.extend_from_slice(&word.to_le_bytes())?;
-    Ok(())
-}
-
-/// An image that is these words, in one executable segment.
+/// The image of these words, one executable segment at 0x10000, in a RAM of 1 MiB.
 fn flat(alloc: Global, words: &[u32]) -> Result<Image, Fail> {
-    let mut file = Vec::new(alloc);
-    for (place, word) in HEADERS.iter().enumerate() {
-        let size = if place == 17 || place == 18 {
-            words.len().wrapping_mul(4) % 65_536
-        } else {
-            0
-        };
-        push_word(&mut file, *word | size as u32)?;
-    }
-    for word in words {
-        push_word(&mut file, *word)?;
-    }
-    Ok(load(alloc, &file, 0x10_0000)?)
+    Ok(load(alloc, &elf_fixture::flat(alloc, words)?, 0x10_0000)?)
 }
 
 /// The need of register or byte `place` before instruction `at`.
@@ -275,6 +232,7 @@ fn check<L: Ledger>(
 ) -> Result<(), Fail> {
     let image = flat(alloc, row.words)?;
     let trace = run(alloc, &image, 9, applies)?;
+    need_facts();
     let table = needs(alloc, &trace)?;
     assert_eq!(rt; table.len(), trace.len());
     check_registers(rt, &table, row.registers);

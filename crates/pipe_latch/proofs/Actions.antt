@@ -32,7 +32,8 @@ pub action_register : (ram executable : ℕ → Bool) (op : Op) (pc a b : ℕ) �
 unfolding action asked
 action_register ram executable op pc a b =
     let least : written_register (asked_by (operation_of op.code) op pc a b) ≤ op.rd = asked_by-register (operation_of op.code) op pc a b in
-    let judge : written_register (judged ram executable (asked_by (operation_of op.code) op pc a b)) ≤ written_register (asked_by (operation_of op.code) op pc a b) = judged-register ram executable (asked_by (operation_of op.code) op pc a b) in
+    let judge : written_register (judged ram executable (asked_by (operation_of op.code) op pc a b)) ≤ written_register (asked_by (operation_of op.code) op pc a b) =
+    judged-register ram executable (asked_by (operation_of op.code) op pc a b) in
     omega arith
 
 -- an instruction's traps are 1 to 8
@@ -51,4 +52,5 @@ judged-something ram executable asked_for h = grind (arith, nat_tests)
 
 pub action-something : (ram executable : ℕ → Bool) (op : Op) (pc a b : ℕ) → action ram executable op pc a b ≢ Nothing
 unfolding action asked
-action-something ram executable op pc a b = judged-something ram executable (asked_by (operation_of op.code) op pc a b) (asked_by-something (operation_of op.code) op pc a b)
+action-something ram executable op pc a b =
+    judged-something ram executable (asked_by (operation_of op.code) op pc a b) (asked_by-something (operation_of op.code) op pc a b)

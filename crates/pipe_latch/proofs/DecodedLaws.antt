@@ -43,11 +43,30 @@ keeps d Count Count i ne = absurd (ne refl)
 keeps d _ _ i ne = refl
 
 same_fields : (d e : DecodedLatch) → ((f : IdExField) → value d f ≡ value e f) → d ≡ e
-same_fields d e same = λ j. record { valid = number_of-same d.valid e.valid (same Valid) j; pc = same Pc j; op = same Op j; rd = same Rd j; rs1 = same Rs1 j; rs2 = same Rs2 j; a = same A j; b = same B j; imm = same Imm j; count = same Count j }
+same_fields d e same =
+    λ j. record {
+      valid = number_of-same d.valid e.valid (same Valid) j;
+      pc = same Pc j;
+      op = same Op j;
+      rd = same Rd j;
+      rs1 = same Rs1 j;
+      rs2 = same Rs2 j;
+      a = same A j;
+      b = same B j;
+      imm = same Imm j;
+      count = same Count j;
+    }
 
 made_up : IsMadeUp layout number
 unfolding number
-made_up = record { numbered = (refl, (refl, (refl, (refl, (refl, (refl, (refl, (refl, (refl, (refl, tt)))))))))); each = each; changes = changes; keeps = keeps; same = same_fields }
+made_up =
+    record {
+      numbered = (refl, (refl, (refl, (refl, (refl, (refl, (refl, (refl, (refl, (refl, tt))))))))));
+      each = each;
+      changes = changes;
+      keeps = keeps;
+      same = same_fields;
+    }
 
 pub laws : FlipLaws IsFit (λ _. bit_count layout) bit_of flipped
 laws = laws_of_layout layout number made_up

@@ -35,7 +35,8 @@ keeps m Cause Cause i ne = absurd (ne refl)
 keeps m _ _ i ne = refl
 
 same_fields : (m n : ExecutedLatch) → ((f : ExMemField) → value m f ≡ value n f) → m ≡ n
-same_fields m n same = λ j. record { valid = number_of-same m.valid n.valid (same Valid) j; kind = same Kind j; rd = same Rd j; x = same X j; y = same Y j; cause = same Cause j }
+same_fields m n same =
+    λ j. record { valid = number_of-same m.valid n.valid (same Valid) j; kind = same Kind j; rd = same Rd j; x = same X j; y = same Y j; cause = same Cause j }
 
 made_up : IsMadeUp layout number
 unfolding number

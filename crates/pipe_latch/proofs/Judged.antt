@@ -8,7 +8,8 @@ use Rattle.rv_table.specs.Actions.{some_executable}
 use Rattle.rv_table.specs.declared.operation.StoreKind.{StoreKind}
 
 -- the bytes of a store, one by one
-pub any_executable_some : (image : LoadedImage) (kind : StoreKind) (x : ℕ) → any_executable image x (store_size kind) ≡ some_executable (executable image) x (store_size kind)
+pub any_executable_some : (image : LoadedImage) (kind : StoreKind) (x : ℕ)
+    → any_executable image x (store_size kind) ≡ some_executable (executable image) x (store_size kind)
 unfolding any_executable
 any_executable_some image kind x = grind (arith, nat_tests)
 

@@ -2,6 +2,7 @@ pub mod Actions
 pub mod DecodedLaws
 pub mod ExecutedLaws
 pub mod Judged
+pub mod KindTests
 pub mod Latches
 pub mod Operands
 pub mod ResultLaws

@@ -15,12 +15,14 @@ unfolding operand late
 operand-nothing w rs held = grind (arith, nat_tests)
 
 -- M's value, else W's, else the one held
-pub settled-operand : (m : Action) (w : ResultLatch) (rs held written : ℕ) → IsWrittenBy m written → settled (operand m w rs held) written ≡ (if rs == 0 then held else (if rs == written_register m then written else (if rs == w.rd then w.value else held)))
+pub settled-operand : (m : Action) (w : ResultLatch) (rs held written : ℕ) → IsWrittenBy m written
+    → settled (operand m w rs held) written ≡ (if rs == 0 then held else (if rs == written_register m then written else (if rs == w.rd then w.value else held)))
 unfolding operand
 settled-operand m w rs held written h = grind (arith, nat_tests)
 
 -- an instruction that stays in EX while M is done: M's value is now W's, and W's is in the late value
-pub settled-stays : (m : Action) (w : ResultLatch) (rs held written other : ℕ) → IsWrittenBy m written → settled (operand Nothing (record { rd = written_register m; value = written }) rs (late w rs held)) other ≡ settled (operand m w rs held) written
+pub settled-stays : (m : Action) (w : ResultLatch) (rs held written other : ℕ) → IsWrittenBy m written
+    → settled (operand Nothing (record { rd = written_register m; value = written }) rs (late w rs held)) other ≡ settled (operand m w rs held) written
 unfolding operand late
 settled-stays m w rs held written other h = grind (arith, nat_tests)
 
@@ -30,7 +32,8 @@ unfolding operand late
 operand-waits_on m w rs held = grind (arith, nat_tests)
 
 -- one that ID takes while d leaves EX and M is done: it reads what the registers hold after W, M and d
-pub settled-taken : (d m : Action) (w : ResultLatch) (registers : ℕ → ℕ) (rs written given : ℕ) → IsWrittenBy d given → settled (operand d (record { rd = written_register m; value = written }) rs (if rs == 0 then 0 else late w rs (registers rs))) given ≡ (if rs == 0 then 0 else (if rs == written_register d then given else (if rs == written_register m then written else (if rs == w.rd then w.value else registers rs))))
+pub settled-taken : (d m : Action) (w : ResultLatch) (registers : ℕ → ℕ) (rs written given : ℕ) → IsWrittenBy d given
+    → settled (operand d (record { rd = written_register m; value = written }) rs (if rs == 0 then 0 else late w rs (registers rs))) given ≡ (if rs == 0 then 0 else (if rs == written_register d then given else (if rs == written_register m then written else (if rs == w.rd then w.value else registers rs))))
 unfolding operand late
 settled-taken d m w registers rs written given h = grind (arith, nat_tests)
 

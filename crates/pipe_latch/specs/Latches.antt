@@ -7,27 +7,27 @@ pub record DecodedLatch : Type 0 where
   pub valid : Bool
   pub pc : ℕ  -- word address
   pub op : ℕ  -- the instruction's code
-  pub rd : ℕ
-  pub rs1 : ℕ
-  pub rs2 : ℕ
+  pub rd : ℕ  -- the register that it writes, 0 for none
+  pub rs1 : ℕ  -- the register of its first operand
+  pub rs2 : ℕ  -- and of its second
   pub a : ℕ  -- the value held for rs1
   pub b : ℕ  -- the value held for rs2
-  pub imm : ℕ
+  pub imm : ℕ  -- the immediate, in two's complement
   pub count : ℕ  -- cycles that it must still wait
 
 -- EX/MEM: what EX asks of the memory stage
 pub record ExecutedLatch : Type 0 where
   pub valid : Bool
-  pub kind : ℕ
-  pub rd : ℕ
+  pub kind : ℕ  -- the number of what it asks
+  pub rd : ℕ  -- the register that it writes, 0 for none
   pub x : ℕ  -- result or byte address
   pub y : ℕ  -- value to store
   pub cause : ℕ  -- of a trap
 
 -- MEM/WB: what is written into the register file; rd 0 is none
 pub record ResultLatch : Type 0 where
-  pub rd : ℕ
-  pub value : ℕ
+  pub rd : ℕ  -- the register that is written
+  pub value : ℕ  -- what is written into it
 
 -- the empty latches are all zero
 abbrev pub no_decoded : DecodedLatch

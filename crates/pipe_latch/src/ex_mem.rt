@@ -2,10 +2,10 @@
 ghost use Rattle.std.specs.Prelude.{◌≡◌, ◌<◌};
 ghost use Rattle.rv_table.specs.Effects.{written_register};
 ghost use Rattle.pipe_latch.specs.LatchedActions.{latch_of, trap_number};
-ghost use Rattle.pipe_latch.specs.LatchedActions as spec;
 
+use crate::kinds::ExMemKind;
 use bit_field::{EX_MEM_BITS, Field, Struck, bit_at, field_at, flip_at_u8, flip_at_u32};
-use rv_table::{Action, LoadKind, StoreKind};
+use rv_table::Action;
 use std::marker::Model;
 
 /// The latch EX/MEM: what execution asks of the memory stage.
@@ -13,8 +13,7 @@ use std::marker::Model;
 pub struct ExMem {
     /// Whether it holds an instruction.
     pub valid: bool,
-    /// What is to be done, below 32: 0 write back, 1 LB, 2 LH, 3 LW, 4 LBU, 5 LHU, 6 SB, 7 SH, 8 SW, 9 PUT, 10 EXIT,
-    /// 11 TRAP; 12 to 31 act as 0.
+    /// The number of what is to be done, below 32: an `ExMemKind`.
     pub kind: u8,
     /// The register to write, below 32; 0 is none.
     pub rd: u8,
@@ -169,42 +168,24 @@ impl ExMem {
         if !self.valid {
             return Action::Nothing;
         }
-        match self.kind {
-            1 => self.loads(LoadKind::Lb),
-            2 => self.loads(LoadKind::Lh),
-            3 => self.loads(LoadKind::Lw),
-            4 => self.loads(LoadKind::Lbu),
-            5 => self.loads(LoadKind::Lhu),
-            6 => self.stores(StoreKind::Sb),
-            7 => self.stores(StoreKind::Sh),
-            8 => self.stores(StoreKind::Sw),
-            9 => Action::Puts(self.x),
-            10 => Action::Exits(self.x),
-            11 => Action::Traps(self.cause),
-            _ => Action::Writes {
+        match ExMemKind::of_number(self.kind) {
+            ExMemKind::WriteBack => Action::Writes {
                 rd: self.rd,
                 value: self.x,
             },
-        }
-    }
-
-    fn loads(&self, kind: LoadKind) -> Action
-        ensures { result ≡ Action.Loads kind self.now.rd self.now.x }
-    {
-        Action::Loads {
-            kind,
-            rd: self.rd,
-            address: self.x,
-        }
-    }
-
-    fn stores(&self, kind: StoreKind) -> Action
-        ensures { result ≡ Action.Stores kind self.now.x self.now.y }
-    {
-        Action::Stores {
-            kind,
-            address: self.x,
-            value: self.y,
+            ExMemKind::Load(kind) => Action::Loads {
+                kind,
+                rd: self.rd,
+                address: self.x,
+            },
+            ExMemKind::Store(kind) => Action::Stores {
+                kind,
+                address: self.x,
+                value: self.y,
+            },
+            ExMemKind::Put => Action::Puts(self.x),
+            ExMemKind::Exit => Action::Exits(self.x),
+            ExMemKind::Trap => Action::Traps(self.cause),
         }
     }
 }
@@ -228,7 +209,7 @@ pub fn latch_for(action: &Action) -> ExMem
             ..written
         },
         Action::Loads { kind, rd, address } => ExMem {
-            kind: kind_of_load(kind),
+            kind: ExMemKind::Load(kind).number(),
             rd,
             x: address,
             ..written
@@ -238,49 +219,25 @@ pub fn latch_for(action: &Action) -> ExMem
             address,
             value,
         } => ExMem {
-            kind: kind_of_store(kind),
+            kind: ExMemKind::Store(kind).number(),
             x: address,
             y: value,
             ..written
         },
         Action::Puts(value) => ExMem {
-            kind: 9,
+            kind: ExMemKind::Put.number(),
             x: value,
             ..written
         },
         Action::Exits(value) => ExMem {
-            kind: 10,
+            kind: ExMemKind::Exit.number(),
             x: value,
             ..written
         },
         Action::Traps(cause) => ExMem {
-            kind: 11,
+            kind: ExMemKind::Trap.number(),
             cause,
             ..written
         },
-    }
-}
-
-fn kind_of_load(kind: LoadKind) -> u8
-    ensures kind { result ≡ spec.kind_of_load kind }
-    ensures range { result < 32 }
-{
-    match kind {
-        LoadKind::Lb => 1,
-        LoadKind::Lh => 2,
-        LoadKind::Lw => 3,
-        LoadKind::Lbu => 4,
-        LoadKind::Lhu => 5,
-    }
-}
-
-fn kind_of_store(kind: StoreKind) -> u8
-    ensures kind { result ≡ spec.kind_of_store kind }
-    ensures range { result < 32 }
-{
-    match kind {
-        StoreKind::Sb => 6,
-        StoreKind::Sh => 7,
-        StoreKind::Sw => 8,
     }
 }

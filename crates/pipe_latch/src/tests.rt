@@ -3,6 +3,7 @@ ghost use Rattle.std.specs.Prelude.{◌<◌};
 
 use super::*;
 use bit_field::Struck;
+use elf_fixture::flat;
 use elf_load::load;
 use rv_table::{Action, LoadKind, StoreKind};
 use std::process::Abort;
@@ -190,13 +191,6 @@ fn actions(rt: HostRuntime) {
     assert_eq!(rt; latch_for(&Action::Traps(8)), trap);
 }
 
-// An image of the one word ECALL, executable, at 0x10000: the RAM is 0x10000 to 0x10FFFF.
-const ONE_WORD: [u8; 88] = [
-    0x7F, 0x45, 0x4C, 0x46, 1, 1, 1, 0, 0, 0, 0, 0, 0, 0, 0, 0, 2, 0, 243, 0, 1, 0, 0, 0, 0, 0, 1,
-    0, 52, 0, 0, 0, 0, 0, 0, 0, 0, 0, 0, 0, 52, 0, 32, 0, 1, 0, 0, 0, 0, 0, 0, 0, 1, 0, 0, 0, 84,
-    0, 0, 0, 0, 0, 1, 0, 0, 0, 1, 0, 4, 0, 0, 0, 4, 0, 0, 0, 5, 0, 0, 0, 4, 0, 0, 0, 0x73, 0, 0, 0,
-];
-
 fn latched(kind: u8, rd: u8, x: u32, y: u32) -> ExMem
     requires kind { kind < 32 }
     requires rd { rd < 32 }
@@ -226,7 +220,9 @@ fn trapped(cause: u8) -> ExMem
 
 #[test]
 fn executes(rt: HostRuntime) {
-    let image = load(rt.alloc(), &ONE_WORD, 1 << 20).expect(&rt, "an image");
+    // the one word ECALL, executable, at 0x10000
+    let file = flat(rt.alloc(), &[0x73]).expect(&rt, "ample memory");
+    let image = load(rt.alloc(), &file, 1 << 20).expect(&rt, "an image");
     // code, immediate, a, b: what EX/MEM then holds, the next address, and what the predictor learns
     let rows = [
         (20, u32::MAX, 7, 0, latched(0, 9, 6, 0), 0x4001, None),

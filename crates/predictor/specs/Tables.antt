@@ -1,11 +1,12 @@
 -- The branch predictor: a history of two-bit counters and a buffer of branch targets, over word addresses.
-use Rattle.std.specs.Prelude.{ℕ, ◌+◌, ◌-◌, ◌/◌, ◌%◌, ◌^◌, ◌==◌, ◌&&◌, Bool, true, false, nat_le, min, if◌then◌else◌, List, replicate, slice_index, slice_index_or, slice_set}
+use Rattle.std.specs.Prelude.{ℕ, ◌+◌, ◌-◌, ◌/◌, ◌%◌, ◌^◌, ◌==◌, ◌&&◌, Bool, true, false, nat_le, min, if◌then◌else◌, List, replicate, slice_index}
+use Rattle.std.specs.Prelude.{slice_index_or, slice_set}
 use Rattle.predictor.specs.declared.history.TheConstants.{COUNTERS}
 use Rattle.predictor.specs.declared.targets.TheConstants.{ENTRIES}
 
 -- an entry of the branch target buffer
 pub record Target : Type 0 where
-  pub valid : Bool
+  pub valid : Bool  -- whether a branch was seen
   pub tag : ℕ  -- the branch's word address divided by the number of entries
   pub target : ℕ  -- the word address that it went to
 

@@ -6,7 +6,8 @@ use Rattle.elf_load.specs.Image.{LoadedImage}
 use Rattle.bit_field.specs.Shapes.{IsShape}
 use Rattle.bit_field.specs.declared.shapes.Shape.{Shape}
 use Rattle.cyc_machine.specs.Cycle.{cycle, cycled, end_in, event_in, put_in, retires}
-use Rattle.cyc_machine.specs.Run.{IsRunning, clocks_after, clocks_below, cycle_if, events_after, events_below, issues, issues_after, issues_below, issues_clock, output_after, output_below, retired_after, retired_below, state_after, state_at, with_one}
+use Rattle.cyc_machine.specs.Run.{IsRunning, clocks_after, clocks_below, cycle_if, events_after, events_below, issues, issues_after, issues_below}
+use Rattle.cyc_machine.specs.Run.{issues_clock, output_after, output_below, retired_after, retired_below, state_after, state_at, with_one}
 use Rattle.cyc_machine.specs.State.{State, reset}
 use Rattle.run_record.specs.Journals.{Adds, IsEmpty, closed, entry_of}
 use Rattle.run_record.specs.Run.{IsRecord}
@@ -25,7 +26,8 @@ pub record Kept (image : LoadedImage) (shape : Shape) (t : ℕ) (machine : State
   pub retired : journal.retired ≡ retired_below image shape t
   pub few : journal.retired ≤ t
 
-pub starts : (image : LoadedImage) (shape : Shape) (machine : State) (journal : Journal) → machine ≡ reset image shape → IsEmpty journal → Kept image shape 0 machine journal
+pub starts : (image : LoadedImage) (shape : Shape) (machine : State) (journal : Journal) → machine ≡ reset image shape → IsEmpty journal
+    → Kept image shape 0 machine journal
 unfolding state_after output_after events_after issues_after clocks_after retired_after reset
 starts image shape machine journal e h = record {
   state = e;
@@ -51,14 +53,18 @@ count_below true m n t e l = let h : n ≡ m + 1 = e in omega arith
 count_below false m n t e l = let h : n ≡ m = e in omega arith
 
 -- a cycle that brings no end
-pub running_more : (image : LoadedImage) (shape : Shape) (t : ℕ) → end_in (state_at image shape t) ≡ None → IsRunning image shape t → IsRunning image shape (suc t)
-running_more image shape t none running u l = elim (last u l) as (λ _. end_in (state_at image shape u) ≡ None) [ inl e ↦ subst (λ v. end_in (state_at image shape v) ≡ None) (sym e) none | inr h ↦ running u h ]
+pub running_more : (image : LoadedImage) (shape : Shape) (t : ℕ) → end_in (state_at image shape t) ≡ None → IsRunning image shape t
+    → IsRunning image shape (suc t)
+running_more image shape t none running u l =
+    elim (last u l) as (λ _. end_in (state_at image shape u) ≡ None)
+    [ inl e ↦ subst (λ v. end_in (state_at image shape v) ≡ None) (sym e) none | inr h ↦ running u h ]
   where
     last : (v : ℕ) → v < suc t → (v ≡ t) ⊎ (v < t)
     last v l = grind arith
 
 -- The lists after one more cycle.
-module _ (image : LoadedImage) (shape : Shape) (t : ℕ) (s : State) (old new : Journal) (kept : Kept image shape t s old) (written : Adds (entry_of s) old new) where
+module _ (image : LoadedImage) (shape : Shape) (t : ℕ) (s : State) (old new : Journal) (kept : Kept image shape t s old)
+    (written : Adds (entry_of s) old new) where
   output_next : new.output.items ≡ output_below image shape (suc t)
   unfolding output_after
   output_next = written.output ∙ with_one-same _ _ _ _ kept.output (ap put_in kept.state)

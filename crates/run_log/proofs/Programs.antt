@@ -9,17 +9,19 @@ use Rattle.cyc_machine.specs.Run.{IsRunning, clocks_below, output_below, retired
 use Rattle.flush_view.specs.RunLaw.{EndsAfter, RunLaw}
 use Rattle.run_record.specs.Journals.{closed}
 use Rattle.run_record.specs.declared.journal.Journal.{Journal}
-use Rattle.run_log.specs.Answers.{IsEndless, IsRunOf}
+use Rattle.run_log.specs.Answers.{IsEndless, IsProgram, IsRunOf}
 use Rattle.run_record.specs.Run.{IsRecord, RecordedRun}
 
-ends_same : (image : LoadedImage) (clocks other : List ℕ) (n m : ℕ) (end : End) (output bytes : List ℕ) → clocks ≡ other → n ≡ m → output ≡ bytes → EndsAfter image other m end bytes → EndsAfter image clocks n end output
+ends_same : (image : LoadedImage) (clocks other : List ℕ) (n m : ℕ) (end : End) (output bytes : List ℕ) → clocks ≡ other → n ≡ m → output ≡ bytes
+    → EndsAfter image other m end bytes → EndsAfter image clocks n end output
 ends_same image clocks other n m end output bytes e f g h = rw (e, f, g) h
 
 -- a record is the instruction set's run
-pub program : (r : RecordedRun) → RunLaw r.image r.shape → IsRecord r → EndsAfter r.image r.clocks r.instructions r.end r.output
+pub program : (r : RecordedRun) → RunLaw r.image r.shape → IsRecord r → IsProgram r
 program r law is =
     let cycles : r.cycles ≡ suc is.last = omega (arith, is.cycles) in
-    ends_same r.image r.clocks (clocks_below r.image r.shape (suc is.last)) r.instructions (retired_below r.image r.shape (suc is.last)) r.end r.output (output_below r.image r.shape (suc is.last))
+    ends_same r.image r.clocks (clocks_below r.image r.shape (suc is.last)) r.instructions (retired_below r.image r.shape (suc is.last)) r.end r.output
+    (output_below r.image r.shape (suc is.last))
     (is.clocks ∙ ap (clocks_below r.image r.shape) cycles)
     (is.instructions ∙ ap (retired_below r.image r.shape) cycles)
     (is.output ∙ ap (output_below r.image r.shape) cycles)
@@ -39,7 +41,8 @@ few : (r : RecordedRun) → IsRecord r → r.instructions ≤ r.cycles
 few r is = let below = few_below r.image r.shape r.cycles in omega (arith, is.instructions)
 
 -- the record of a run that was written down to its end
-pub is_run : (image : LoadedImage) (shape : Shape) (budget cycles : ℕ) (end : End) (journal : Journal) → RunLaw image shape → IsRecord (closed image shape cycles end journal) → cycles ≤ budget → IsRunOf image shape budget (closed image shape cycles end journal)
+pub is_run : (image : LoadedImage) (shape : Shape) (budget cycles : ℕ) (end : End) (journal : Journal) → RunLaw image shape
+    → IsRecord (closed image shape cycles end journal) → cycles ≤ budget → IsRunOf image shape budget (closed image shape cycles end journal)
 is_run image shape budget cycles end journal law is within = record {
   record_of = record { image_is = refl; shape_is = refl; within = within; is_record = is };
   program = program (closed image shape cycles end journal) law is;

@@ -16,7 +16,7 @@ use elf_load::Image;
 use flush_view::run_law;
 use pipe_latch::IdEx;
 use run_record::{Journal, Recorded};
-use rv_table::{Op, is_clocked};
+use rv_table::is_clocked;
 use std::alloc::{AllocError, Global};
 use std::sync::ledger::Ledger;
 
@@ -119,11 +119,5 @@ fn run_cycle<L: Ledger>(
 fn reads_clock(decoded: &IdEx) -> bool
     ensures { result ≡ rv.is_clocked (latches.op_of_latch decoded.now) }
 {
-    is_clocked(&Op {
-        code: decoded.op,
-        rd: decoded.rd,
-        rs1: decoded.rs1,
-        rs2: decoded.rs2,
-        imm: decoded.imm,
-    })
+    is_clocked(&decoded.instruction())
 }

@@ -7,7 +7,8 @@ use avf_base::{End, Steps, counter};
 use bit_field::plain_shape;
 use cyc_machine::Machine;
 use elf_load::{Image, load};
-use flush_view::{run_law, step_flush, view_byte};
+use flush_view::{cycle_laws, flush_laws, run_law, step_flush, struck_laws, view_byte};
+use run_record::verdict_law;
 use std::alloc::Global;
 use std::fs::Files;
 use std::marker::Brand;
@@ -16,52 +17,9 @@ use std::sync::ledger::{Blank, Ledger};
 use std::test::Fail;
 use wb_cache::EventKind;
 
-// The ELF32 header and one program header: an executable for RISC-V with one executable segment at 0x10000, which stands
-// at offset 84 and is entered at its start. The segment's two sizes, at bytes 68 and 72, are left 0.
-const HEADERS: [u32; 21] = [
-    0x464C_457F,
-    0x0001_0101,
-    0,
-    0,
-    0x00F3_0002,
-    1,
-    0x1_0000,
-    52,
-    0,
-    0,
-    0x0020_0034,
-    1,
-    0,
-    1,
-    84,
-    0x1_0000,
-    0x1_0000,
-    0,
-    0,
-    5,
-    4,
-];
-
-fn push_word(file: &mut Vec<u8>, word: u32) -> Result<(), Fail> {
-    file.extend_from_slice(&word.to_le_bytes())?;
-    Ok(())
-}
-
-// An image that is these words, in one executable segment.
+// The image of these words, one executable segment at 0x10000, in a RAM of 1 MiB.
 fn flat(alloc: Global, words: &[u32]) -> Result<Image, Fail> {
-    let mut file = Vec::new(alloc);
-    for (place, word) in HEADERS.iter().enumerate() {
-        let size = if place == 17 || place == 18 {
-            words.len().wrapping_mul(4) % 65_536
-        } else {
-            0
-        };
-        push_word(&mut file, *word | size as u32)?;
-    }
-    for word in words {
-        push_word(&mut file, *word)?;
-    }
-    Ok(load(alloc, &file, 0x10_0000)?)
+    Ok(load(alloc, &elf_fixture::flat(alloc, words)?, 0x10_0000)?)
 }
 
 // lui s0, 0x80; lw t0, 0(s0); lw t1, 512(s0); lw t2, 1024(s0); lw a0, 0(s0); addi a7, zero, 93; ecall
@@ -129,6 +87,10 @@ fn check_clock<L: Ledger>(
 fn check_laws<L: Ledger>(rt: &impl Abort, alloc: Global, steps: &mut Steps<L>) -> Result<(), Fail> {
     let image = flat(alloc, &CLOCK)?;
     run_law(&image, &plain_shape());
+    verdict_law();
+    cycle_laws();
+    flush_laws();
+    struck_laws();
     let mut machine = Machine::new(alloc, &image)?;
     assert_eq!(rt; view_byte(&machine, 0x1_0000), 0x73);
     assert_eq!(rt; view_byte(&machine, 0x1_0003), 0xC0);

@@ -26,7 +26,8 @@ retires_one true true n = omega arith
 retires_one true false n = omega arith
 retires_one false leaves n = omega arith
 
-stays : (valid leaves : Bool) (n issued : ℕ) → n + occupied valid ≤ issued → (if valid && leaves then n + 1 else n) + (if leaves then 0 else occupied valid) ≤ issued
+stays : (valid leaves : Bool) (n issued : ℕ) → n + occupied valid ≤ issued
+    → (if valid && leaves then n + 1 else n) + (if leaves then 0 else occupied valid) ≤ issued
 stays true true n issued h = omega (arith, h)
 stays true false n issued h = omega (arith, h)
 stays false true n issued h = omega (arith, h)
@@ -36,7 +37,8 @@ left_behind : (m : ExecutedLatch) (leaves : Bool) → occupied (if leaves then n
 left_behind m true = refl
 left_behind m false = refl
 
-kept : (m : ExecutedLatch) (leaves : Bool) (n issued : ℕ) → n + occupied m.valid ≤ issued → (if m.valid && leaves then n + 1 else n) + occupied (if leaves then no_executed else m).valid ≤ issued
+kept : (m : ExecutedLatch) (leaves : Bool) (n issued : ℕ) → n + occupied m.valid ≤ issued
+    → (if m.valid && leaves then n + 1 else n) + occupied (if leaves then no_executed else m).valid ≤ issued
 kept m leaves n issued h = let e = left_behind m leaves in let k = stays m.valid leaves n issued h in omega (arith, e, k)
 
 -- one cycle, by what becomes of ID/EX
@@ -53,12 +55,14 @@ by_fate image (Goes a b) leaves d cycle issued m s n xs h =
     let longer = length-append xs (s.cycle ∷ []) in
     omega (arith, one, out, longer, h)
 
-pub retired-issued : (image : LoadedImage) (shape : Shape) (t : ℕ) → retired_below image shape t + occupied (state_at image shape t).m.valid ≤ length (issues_below image shape t)
+pub retired-issued : (image : LoadedImage) (shape : Shape) (t : ℕ)
+    → retired_below image shape t + occupied (state_at image shape t).m.valid ≤ length (issues_below image shape t)
 unfolding state_after retired_after issues_after cycled reset
 retired-issued image shape zero = omega arith
 retired-issued image shape (suc t) =
     let s = state_at image shape t in
-    by_fate s.image (fate s) (served_m s).goes s.d s.cycle s.issued s.m s (retired_below image shape t) (issues_below image shape t) (retired-issued image shape t)
+    by_fate s.image (fate s) (served_m s).goes s.d s.cycle s.issued s.m s (retired_below image shape t) (issues_below image shape t)
+    (retired-issued image shape t)
 
 -- each retired instruction of a record has its issue cycle
 pub record_issued : (r : RecordedRun) → IsRecord r → r.instructions ≤ length r.issues

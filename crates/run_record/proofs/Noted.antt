@@ -1,5 +1,6 @@
 -- Numbers of cycles that are noted in order: those below t are the ones that were noted by t.
-use Rattle.std.proofs.Common.{◌≡◌, ℕ, zero, suc, ◌+◌, ◌<◌, ◌≤◌, List, [], ◌∷◌, ◌++◌, length, Bool, true, false, Option, Some, None, refl, sym, ap, ◌∙◌, arith, inl, inr, get_or, length-append, append-nil, append_assoc}
+use Rattle.std.proofs.Common.{◌≡◌, ℕ, zero, suc, ◌+◌, ◌<◌, ◌≤◌, List, [], ◌∷◌, ◌++◌, length, Bool, true, false, Option, Some, None, refl, sym, ap, ◌∙◌}
+use Rattle.std.proofs.Common.{arith, inl, inr, get_or, length-append, append-nil, append_assoc}
 use Rattle.std.specs.Prelude.{All, AllPairs, count_by, filter, nat_le, nat_lt}
 use Rattle.std.specs.Bool.{then_some}
 use Rattle.std.proofs.Math.ListN.{get_or-append}
@@ -69,7 +70,9 @@ module _ (does : ℕ → Bool) where
 
   pub rest : (t n : ℕ) → t ≤ n → noted does n ≡ noted does t ++ filter (λ c. nat_le t c) (noted does n)
   unfolding noted
-  rest t zero l = let e : zero ≡ t = omega (arith, l) in ap (noted does) e ∙ sym (append-nil (noted does t)) ∙ ap (λ xs. noted does t ++ xs) (sym (none t zero (omega arith)))
+  rest t zero l =
+      let e : zero ≡ t = omega (arith, l) in ap (noted does) e ∙ sym (append-nil (noted does t))
+      ∙ ap (λ xs. noted does t ++ xs) (sym (none t zero (omega arith)))
   rest t (suc n) l =
       elim (cases_lt n t) [
         | inr m ↦

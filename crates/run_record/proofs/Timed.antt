@@ -1,31 +1,24 @@
 -- The issue cycles and clock values of a record are numbers of cycles in order.
-use Rattle.std.proofs.Common.{◌≡◌, ◌<◌, ◌++◌, ℕ, zero, suc, ◌+◌, Bool, length, refl, sym, ap, ◌∙◌, subst, add-one}
+use Rattle.std.proofs.Common.{◌≡◌, ◌<◌, ◌++◌, ℕ, zero, suc, ◌+◌, Bool, length, refl, sym, ap, ◌∙◌, subst}
 use Rattle.std.specs.Prelude.{AllPairs, count_by, filter, nat_le, nat_lt}
 use Rattle.bit_field.specs.declared.shapes.Shape.{Shape}
 use Rattle.elf_load.specs.Image.{LoadedImage}
-use Rattle.cyc_machine.specs.Cycle.{cycled}
-use Rattle.cyc_machine.specs.Run.{clocks_after, clocks_below, issues, issues_after, issues_below, issues_clock, state_after, state_at}
-use Rattle.cyc_machine.specs.State.{reset}
+use Rattle.cyc_machine.specs.Run.{clocks_after, clocks_below, issues, issues_after, issues_below, issues_clock, state_at}
+use Rattle.cyc_machine.proofs.RunsOn.{cycle-at}
 use Rattle.run_record.specs.Run.{IsRecord, RecordedRun}
 use Rattle.run_record.specs.Times.{IsTimed}
 use Rattle.run_record.proofs.Noted.{counted, front, noted, rest, rising}
-
--- a cycle's number counts the cycles from reset
-number : (image : LoadedImage) (shape : Shape) (t : ℕ) → (state_at image shape t).cycle ≡ t
-unfolding state_after cycled reset
-number image shape zero = refl
-number image shape (suc t) = ap (λ n. n + 1) (number image shape t) ∙ add-one t
 
 module _ (image : LoadedImage) (shape : Shape) where
   pub issues_are : (t : ℕ) → issues_below image shape t ≡ noted (λ u. issues (state_at image shape u)) t
   unfolding issues_after noted
   issues_are zero = refl
-  issues_are (suc t) = rw (issues_are t, number image shape t) refl
+  issues_are (suc t) = rw (issues_are t, cycle-at image shape t) refl
 
   pub clocks_are : (t : ℕ) → clocks_below image shape t ≡ noted (λ u. issues_clock (state_at image shape u)) t
   unfolding clocks_after noted
   clocks_are zero = refl
-  clocks_are (suc t) = rw (clocks_are t, number image shape t) refl
+  clocks_are (suc t) = rw (clocks_are t, cycle-at image shape t) refl
 
 pub record_timed : (r : RecordedRun) → IsRecord r → IsTimed r
 record_timed r is =

@@ -1,5 +1,6 @@
 -- Of a run that goes on from any state in place of a recorded one exactly one verdict holds.
-use Rattle.std.proofs.Common.{◌≡◌, ◌⊎◌, ℕ, zero, suc, ◌+◌, ◌-◌, ◌*◌, ◌<◌, ◌≤◌, List, [], ◌∷◌, ◌++◌, length, take, Option, None, Some, refl, sym, ap, ◌∙◌, subst, arith, inl, inr, append-nil, append_assoc}
+use Rattle.std.proofs.Common.{◌≡◌, ◌⊎◌, ℕ, zero, suc, ◌+◌, ◌-◌, ◌*◌, ◌<◌, ◌≤◌, List, [], ◌∷◌, ◌++◌, length, take, Option, None, Some, refl, sym, ap, ◌∙◌}
+use Rattle.std.proofs.Common.{subst, arith, inl, inr, append-nil, append_assoc}
 use Rattle.std.proofs.Math.Seq.{take-append_seam}
 use Rattle.std.proofs.lemmas.Bool.{cases_eq, cases_order}
 use Rattle.avf_base.specs.declared.end.End.{End}
@@ -46,7 +47,8 @@ grows-on xs ys zs g h = record { more = g.more ++ h.more; is = h.is ∙ ap (λ l
 
 output_grows : (u : State) (n d m : ℕ) → m ≡ d + n → Grows (output_after n u) (output_after m u)
 unfolding output_after
-output_grows u n zero m e = let same : m ≡ n = omega (arith, e) in record { more = []; is = ap (λ k. output_after k u) same ∙ sym (append-nil (output_after n u)) }
+output_grows u n zero m e =
+    let same : m ≡ n = omega (arith, e) in record { more = []; is = ap (λ k. output_after k u) same ∙ sym (append-nil (output_after n u)) }
 output_grows u n (suc d) zero e = absurd (omega (arith, e))
 output_grows u n (suc d) (suc m) e = grows-on _ _ _ (output_grows u n d m (omega (arith, e))) (one_more (output_after m u) (put_in (state_after m u)))
 

@@ -40,7 +40,8 @@ not_ended None e = refl
 not_ended (Some end) e = absurd cc
 
 -- the record of cycles of which the last is the first that brings an end
-is_record : (image : LoadedImage) (shape : Shape) (n last : ℕ) (end : End) → IsShape shape → IsFirst n (ends_at image shape) last → end_in (state_at image shape last) ≡ Some end
+is_record : (image : LoadedImage) (shape : Shape) (n last : ℕ) (end : End) → IsShape shape → IsFirst n (ends_at image shape) last
+    → end_in (state_at image shape last) ≡ Some end
     → IsRecordOf image shape n (record_to image shape last end)
 is_record image shape n last end fits first ends = record {
   image_is = refl;
@@ -60,7 +61,8 @@ is_record image shape n last end fits first ends = record {
   };
 }
 
-by_end : (image : LoadedImage) (shape : Shape) (n last : ℕ) (r : RecordedRun) (end : Option End) → IsShape shape → IsFirst n (ends_at image shape) last → end_in (state_at image shape last) ≡ end
+by_end : (image : LoadedImage) (shape : Shape) (n last : ℕ) (r : RecordedRun) (end : Option End) → IsShape shape → IsFirst n (ends_at image shape) last
+    → end_in (state_at image shape last) ≡ end
     → option_map (record_to image shape last) end ≡ Some r → IsRecordOf image shape n r
 by_end image shape n last r None fits first ends e = absurd cc
 by_end image shape n last r (Some end) fits first ends e =
@@ -72,6 +74,7 @@ by_last image shape n r None fits first e = absurd cc
 by_last image shape n r (Some last) fits first e =
     by_end image shape n last r (end_in (state_at image shape last)) fits (first_below-some n last (ends_at image shape) first) refl e
 
-pub within_is_record : (image : LoadedImage) (shape : Shape) (n : ℕ) (r : RecordedRun) → IsShape shape → record_within image shape n ≡ Some r → IsRecordOf image shape n r
+pub within_is_record : (image : LoadedImage) (shape : Shape) (n : ℕ) (r : RecordedRun) → IsShape shape → record_within image shape n ≡ Some r
+    → IsRecordOf image shape n r
 unfolding record_within
 within_is_record image shape n r fits e = by_last image shape n r (first_below n (ends_at image shape)) fits refl e

@@ -1,9 +1,13 @@
+pub mod Accessed
 pub mod Allowed
 pub mod Entries
 pub mod Fetched
 pub mod Follows
 pub mod Lists
 pub mod Memory
+pub mod NextState
+pub mod Ranges
 pub mod RunSteps
 pub mod Steps
 pub mod Stores
+pub mod WordsLaws

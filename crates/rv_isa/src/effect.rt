@@ -1,6 +1,7 @@
 // What one instruction does, told from outside.
 
 ghost use Rattle.std.specs.Prelude.{◌≡◌};
+ghost use Rattle.rv_isa.specs.AccessLaw.{AccessLaw};
 ghost use Rattle.rv_isa.specs.Effects as spec;
 ghost use Rattle.rv_isa.specs.Instruction as instruction;
 ghost use Rattle.rv_table.specs.Effects as table;
@@ -94,3 +95,8 @@ pub(crate) fn end_of(action: &Action) -> Option<End>
         _ => None,
     }
 }
+
+/// Says what holds of the accesses of instructions: as they are recorded, and the lines that they lie in. It does nothing.
+pub fn access_law()
+    ensures { AccessLaw }
+{}

@@ -8,9 +8,9 @@ mod runs;
 pub mod trace;
 
 pub use arch::Arch;
-pub use effect::{Effect, Retired};
+pub use effect::{Effect, Retired, access_law};
 pub use error::IsaError;
-pub use runs::{run, run_clocked};
+pub use runs::{run, run_clocked, words_law};
 pub use trace::Trace;
 
 #[cfg(test)]

@@ -2,6 +2,7 @@
 ghost use Rattle.std.specs.Prelude.{◌≡◌, ◌+◌, ◌≤◌, [], ◌∷◌, ◌++◌, length, MatchResult, OnOk};
 ghost use Rattle.rv_isa.specs.Instruction.{with_byte};
 ghost use Rattle.rv_isa.specs.Runs.{IsAnswer};
+ghost use Rattle.rv_isa.specs.WordsLaw.{WordsLaw};
 
 use crate::{Arch, IsaError, Retired, Trace};
 use avf_base::{OutOfMemory, Steps};
@@ -63,3 +64,8 @@ fn keep(
     }
     Ok(())
 }
+
+/// Says that the numbers of a state stay in their ranges, and that its clock values only shrink. It does nothing.
+pub fn words_law()
+    ensures { WordsLaw }
+{}

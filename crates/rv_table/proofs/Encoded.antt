@@ -1,9 +1,9 @@
 -- The word of an operation decodes to it: the bits that its row fixes give its code, and the others its fields.
-use Rattle.std.proofs.Common.{◌≡◌, ℕ, ◌+◌, ◌<◌, ◌^◌, ◌==◌, ◌||◌, Bool, true, false, ap, sym, ◌∙◌, refl, lit<, subst}
+use Rattle.std.proofs.Common.{◌≡◌, ℕ, ◌+◌, ◌<◌, ◌^◌, ◌==◌, ◌||◌, ◌&&◌, Bool, true, false, ap, sym, ◌∙◌, refl, lit<, subst}
 use Rattle.std.proofs.lemmas.Bool.{and_parts, eqb-true}
 use Rattle.rv_table.proofs.Forms.{Encodes, encoded_u, encoded_j, encoded_i, encoded_b, encoded_s, encoded_shift, encoded_r, encoded_call, encoded_bare, encoded_counter}
 use Rattle.rv_table.proofs.Lawful.{RowLaw, row_lawful}
-use Rattle.rv_table.specs.Codes.{code_of, field_bits, fixed_bits}
+use Rattle.rv_table.specs.Codes.{code_of, field_bits, fixed_bits, word_of}
 use Rattle.rv_table.specs.Operations.{form_of, has_row}
 use Rattle.rv_table.specs.Rows.{has_word, row_of}
 use Rattle.rv_table.specs.Words.{decode, row_of_word}
@@ -79,5 +79,23 @@ word_below op h k = (encoded op h k).below
 
 pub decode-encoded : (op : Op) → well_formed op ≡ true → op.imm < 2 ^ 32 → decode (fixed_bits op.code + field_bits (form_of op.code) op) ≡ op
 decode-encoded op h k = (encoded op h k).decodes
+
+-- for other crates: an operation that has a word is well-formed where its fields fit
+pub well_formed-row : (op : Op) → has_row op.code ≡ true → well_formed op ≡ fits (form_of op.code) op
+unfolding well_formed
+well_formed-row op h = go (op.code == 0) (has_row op.code) h
+  where
+    go : (t u : Bool) → u ≡ true → ((t || u) && fits (form_of op.code) op) ≡ fits (form_of op.code) op
+    go true u e = refl
+    go false true e = refl
+    go false false e = absurd cc
+
+pub word_of-below : (op : Op) → well_formed op ≡ true → op.imm < 2 ^ 32 → word_of op < 2 ^ 32
+unfolding word_of
+word_of-below op h k = word_below op h k
+
+pub decode-word_of : (op : Op) → well_formed op ≡ true → op.imm < 2 ^ 32 → decode (word_of op) ≡ op
+unfolding word_of
+decode-word_of op h k = decode-encoded op h k
 
 pub ruleset encoding = (fits_form, word_below, decode-encoded)

@@ -9,9 +9,12 @@ pub mod Judged
 pub mod Lanes
 pub mod Lawful
 pub mod Loads
+pub mod Ranges
+pub mod Results
 pub mod RowLookups
 pub mod Signed
 pub mod Spelled
 pub mod Stores
 pub mod TableLaws
 pub mod WordTable
+pub mod Writes

@@ -6,7 +6,7 @@ use Rattle.rv_table.specs.Accesses.{accesses, word_of_bytes, byte_of, load_size,
 use Rattle.rv_table.specs.declared.operation.LoadKind.{LoadKind}
 use Rattle.rv_table.specs.declared.operation.LoadKind.TheVariants.{Lb, Lh, Lw, Lbu, Lhu}
 
-accessed : (size x p : ℕ) → p / size ≡ x / size → accesses size x p ≡ true
+pub accessed : (size x p : ℕ) → p / size ≡ x / size → accesses size x p ≡ true
 unfolding accesses
 accessed size x p e = eq-eqb (p / size) (x / size) e
 

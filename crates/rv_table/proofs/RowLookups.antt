@@ -1,5 +1,5 @@
 -- The row of a code and the row of a word, by their places in the table.
-use Rattle.std.proofs.Common.{◌≡◌, ℕ, zero, suc, ◌+◌, ◌<◌, ◌≤◌, ◌==◌, ◌&&◌, ◌⊎◌, inl, inr, Bool, true, false, cond, List, [], ◌∷◌, length, Some}
+use Rattle.std.proofs.Common.{◌≡◌, ℕ, zero, suc, ◌+◌, ◌<◌, ◌≤◌, ◌==◌, ◌&&◌, ◌||◌, not, ◌⊎◌, inl, inr, Bool, true, false, cond, List, [], ◌∷◌, length, Some}
 use Rattle.std.proofs.Common.{arith, ap, sym, ◌∙◌, refl, subst}
 use Rattle.std.proofs.lemmas.Bool.{and_parts, eqb-true, eq-eqb, ne_eqb}
 use Rattle.std.specs.List.{list_all}
@@ -102,6 +102,11 @@ pub each_row : (test : Row → Bool) → list_all test rows ≡ true → (code :
 unfolding row_of
 each_row test h code = each_in test rows code (and_parts _ _ h).0 h
 
+-- for tests of the form "if t then u"
+pub implied : (t u : Bool) → t ≡ true → (not t || u) ≡ true → u ≡ true
+implied true u e h = h
+implied false u e h = absurd cc
+
 -- ---- the row of a word
 
 -- a row among these, whose fixed bits the word has, or ILLEGAL
@@ -134,7 +139,7 @@ row_of-word w = go (matched w)
     go (inl e) = ap (λ (r : Row). row_of r.code) e ∙ illegal-found ∙ sym e
     go (inr (i, e, m)) = ap row_of (code-get i (row_of_word w) e) ∙ row_of-get i (row_of_word w) e
 
-matches-word : (p : Pattern) (w : ℕ) → matches p w ≡ true → has_word p ≡ true
+pub matches-word : (p : Pattern) (w : ℕ) → matches p w ≡ true → has_word p ≡ true
 matches-word NoWord w h = absurd cc
 matches-word (Opcode o) w h = refl
 matches-word (Funct3 o f) w h = refl

@@ -56,7 +56,7 @@ shift_by false a m q h e fits below =
     let g : suc ((2 ^ 32 - suc a) / m) + a / m ≡ q = ap (λ x. suc ((x - suc a) / m) + a / m) (sym e) ∙ f in
     omega arith
 
-power_split : (n : ℕ) → n < 32 → 2 ^ (32 - n) * 2 ^ n ≡ 2 ^ 32
+pub power_split : (n : ℕ) → n < 32 → 2 ^ (32 - n) * 2 ^ n ≡ 2 ^ 32
 power_split n h =
     let e : 32 - n + n ≡ 32 = omega arith in
     sym (pow-add 2 (32 - n) n) ∙ ap (λ k. 2 ^ k) e

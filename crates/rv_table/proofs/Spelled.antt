@@ -64,13 +64,13 @@ pub ruleset spelling = (named_rd, named_rs1, named_rs2, bare_text)
 
 -- ---- the names of the registers
 
-name_at : (xs : List (Bor (List ℕ))) (names : List (List ℕ)) (i : ℕ) (d : Bor (List ℕ)) → map (λ name. name.now) xs ≡ names → i < length xs → (slice_index_or xs i d).now ≡ slice_index_or names i []
+pub name_at : (xs : List (Bor (List ℕ))) (names : List (List ℕ)) (i : ℕ) (d : Bor (List ℕ)) → map (λ name. name.now) xs ≡ names → i < length xs → (slice_index_or xs i d).now ≡ slice_index_or names i []
 name_at [] names i d e l = absurd (omega arith)
 name_at (x ∷ xs) [] i d e l = absurd cc
 name_at (x ∷ xs) (y ∷ names) zero d e l = cc
 name_at (x ∷ xs) (y ∷ names) (suc i) d e l = let same : map (λ name. name.now) xs ≡ names = cc in let shorter : i < length xs = omega arith in name_at xs names i d same shorter
 
-names-length : (xs : List (Bor (List ℕ))) (names : List (List ℕ)) → map (λ name. name.now) xs ≡ names → length xs ≡ length names
+pub names-length : (xs : List (Bor (List ℕ))) (names : List (List ℕ)) → map (λ name. name.now) xs ≡ names → length xs ≡ length names
 names-length [] [] e = refl
 names-length [] (y ∷ names) e = absurd cc
 names-length (x ∷ xs) [] e = absurd cc

@@ -5,7 +5,7 @@ use Rattle.std.proofs.lemmas.Bool.{and_parts, eqb-true}
 use Rattle.std.proofs.lemmas.Bool.Decides.{nat_tests}
 use Rattle.std.specs.List.{list_all}
 use Rattle.std.specs.Prelude.{find, slice_get}
-use Rattle.rv_table.proofs.RowLookups.{IsMatched, code-get, each_row, matched, row_of-get, row_of-own}
+use Rattle.rv_table.proofs.RowLookups.{IsMatched, code-get, each_row, matched, implied, matches-word, row_of-get, row_of-own}
 use Rattle.rv_table.specs.Operations.{has_row}
 use Rattle.rv_table.specs.Rows.{Row, has_word, is_named, row_named, row_of, rows}
 use Rattle.rv_table.specs.TableLaw.{TableLaw}
@@ -100,14 +100,6 @@ never_both None b n h e f = absurd cc
 no_word : (w : ℕ) → matches NoWord w ≡ true → ⊥
 no_word w h = cc
 
-words : (p : Pattern) (w : ℕ) → matches p w ≡ true → has_word p ≡ true
-words NoWord w h = absurd (no_word w h)
-words (Opcode o) w h = refl
-words (Funct3 o f) w h = refl
-words (Funct7 o f g) w h = refl
-words (Word word) w h = refl
-words (WordButRd word) w h = refl
-
 one_of : (a b : Bool) → (a || b) ≡ true → (a ≡ true) ⊎ (b ≡ true)
 one_of true b h = inl refl
 one_of false b h = inr h
@@ -120,7 +112,7 @@ both false b e f h = cc
 apart-never : (p q : Pattern) (w : ℕ) → apart p q ≡ true → matches p w ≡ true → matches q w ≡ true → ⊥
 apart-never p q w h e f =
     elim (one_of _ _ h) [
-      | inl none ↦ both _ _ (words p w e) (words q w f) none
+      | inl none ↦ both _ _ (matches-word p w e) (matches-word q w f) none
       | inr h ↦ elim (one_of _ _ h) [
         | inl d ↦ never_both _ _ (opcode_of w) d (opcode-is p w e) (opcode-is q w f)
         | inr h ↦ elim (one_of _ _ h) [
@@ -221,14 +213,10 @@ named_by (Some s) r h k own =
     let same : s ≡ r = sym (k s refl) ∙ ap row_of (eqb-true _ _ h) ∙ own in
     ap Some same
 
-not_false : (t u : Bool) → t ≡ true → (not t || u) ≡ true → u ≡ true
-not_false true u e h = h
-not_false false u e h = absurd cc
-
 one_name : (code : ℕ) → has_row code ≡ true → row_named (row_of code).mnemonic ≡ Some (row_of code)
 unfolding has_row row_named
 one_name code h =
-    named_by (find (is_named (row_of code).mnemonic) rows) (row_of code) (not_false _ _ h (itself code)) (found_row (is_named (row_of code).mnemonic)) (row_of-own code)
+    named_by (find (is_named (row_of code).mnemonic) rows) (row_of code) (implied _ _ h (itself code)) (found_row (is_named (row_of code).mnemonic)) (row_of-own code)
 
 pub law : TableLaw
 law = record { in_order = code-get; one_row = one_row; decodes = decodes; one_name = one_name }

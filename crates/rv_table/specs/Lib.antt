@@ -9,3 +9,4 @@ pub mod TableLaw
 pub mod Texts
 pub mod WellFormed
 pub mod Words
+pub mod WriteLaw

@@ -1,6 +1,7 @@
 // What an instruction does besides going on.
 ghost use Rattle.std.specs.Prelude.{◌≡◌, ◌<◌, ◌^◌, ◌&&◌, not};
 ghost use Rattle.rv_table.specs.Effects.{written_register};
+ghost use Rattle.rv_table.specs.WriteLaw.{WriteLaw};
 ghost use Rattle.rv_table.specs.Actions.{access_of, asked, called, is_clocked, is_aligned, is_counter, judged_by, load_asked, next_address, store_asked, with_counter};
 
 use crate::{
@@ -206,3 +207,8 @@ pub fn is_clocked(op: &Op) -> bool
         Operation::ReadCounter(CounterKind::Cycle)
     )
 }
+
+/// Says that a decoded instruction that names a register other than 0 as rd writes it or traps. It does nothing.
+pub fn write_law()
+    ensures { WriteLaw }
+{}

@@ -5,7 +5,8 @@ ghost use Rattle.rv_table.specs.WellFormed.{well_formed};
 ghost use Rattle.rv_table.specs.Words.{decode};
 
 use crate::form::bits;
-use crate::{Op, form_of};
+use crate::op::ILLEGAL_CODE;
+use crate::{Op, codes, form_of};
 
 #[tactic(auto, using(crate::proofs::Formed::decoding))]
 /// The operation of a word, by the word table. A word outside the table gives ILLEGAL, code 0 with all fields 0.
@@ -29,9 +30,9 @@ fn code_of(word: u32) -> u8
     let funct3 = bits(word, 12, 3);
     let funct7 = word >> 25;
     match word % 128 {
-        0x37 => 2,
-        0x17 => 3,
-        0x6F => 4,
+        0x37 => codes::LUI,
+        0x17 => codes::AUIPC,
+        0x6F => codes::JAL,
         0x67 => jump_code(funct3),
         0x63 => branch_code(funct3),
         0x03 => load_code(funct3),
@@ -40,7 +41,7 @@ fn code_of(word: u32) -> u8
         0x33 => register_code(funct3, funct7),
         0x0F => fence_code(funct3),
         0x73 => system_code(word),
-        _ => 0,
+        _ => ILLEGAL_CODE,
     }
 }
 
@@ -49,8 +50,8 @@ fn jump_code(funct3: u32) -> u8
     ensures { result ≡ code_by 0x67 funct3 0 0 }
 {
     match funct3 {
-        0 => 5,
-        _ => 0,
+        0 => codes::JALR,
+        _ => ILLEGAL_CODE,
     }
 }
 
@@ -59,13 +60,13 @@ fn branch_code(funct3: u32) -> u8
     ensures { result ≡ code_by 0x63 funct3 0 0 }
 {
     match funct3 {
-        0 => 6,
-        1 => 7,
-        4 => 8,
-        5 => 9,
-        6 => 10,
-        7 => 11,
-        _ => 0,
+        0 => codes::BEQ,
+        1 => codes::BNE,
+        4 => codes::BLT,
+        5 => codes::BGE,
+        6 => codes::BLTU,
+        7 => codes::BGEU,
+        _ => ILLEGAL_CODE,
     }
 }
 
@@ -74,12 +75,12 @@ fn load_code(funct3: u32) -> u8
     ensures { result ≡ code_by 0x03 funct3 0 0 }
 {
     match funct3 {
-        0 => 12,
-        1 => 13,
-        2 => 14,
-        4 => 15,
-        5 => 16,
-        _ => 0,
+        0 => codes::LB,
+        1 => codes::LH,
+        2 => codes::LW,
+        4 => codes::LBU,
+        5 => codes::LHU,
+        _ => ILLEGAL_CODE,
     }
 }
 
@@ -88,10 +89,10 @@ fn store_code(funct3: u32) -> u8
     ensures { result ≡ code_by 0x23 funct3 0 0 }
 {
     match funct3 {
-        0 => 17,
-        1 => 18,
-        2 => 19,
-        _ => 0,
+        0 => codes::SB,
+        1 => codes::SH,
+        2 => codes::SW,
+        _ => ILLEGAL_CODE,
     }
 }
 
@@ -100,16 +101,16 @@ fn immediate_code(funct3: u32, funct7: u32) -> u8
     ensures { result ≡ code_by 0x13 funct3 funct7 0 }
 {
     match (funct3, funct7) {
-        (0, _) => 20,
-        (2, _) => 21,
-        (3, _) => 22,
-        (4, _) => 23,
-        (6, _) => 24,
-        (7, _) => 25,
-        (1, 0x00) => 26,
-        (5, 0x00) => 27,
-        (5, 0x20) => 28,
-        _ => 0,
+        (0, _) => codes::ADDI,
+        (2, _) => codes::SLTI,
+        (3, _) => codes::SLTIU,
+        (4, _) => codes::XORI,
+        (6, _) => codes::ORI,
+        (7, _) => codes::ANDI,
+        (1, 0x00) => codes::SLLI,
+        (5, 0x00) => codes::SRLI,
+        (5, 0x20) => codes::SRAI,
+        _ => ILLEGAL_CODE,
     }
 }
 
@@ -118,25 +119,25 @@ fn register_code(funct3: u32, funct7: u32) -> u8
     ensures { result ≡ code_by 0x33 funct3 funct7 0 }
 {
     match (funct7, funct3) {
-        (0x00, 0) => 29,
-        (0x20, 0) => 30,
-        (0x00, 1) => 31,
-        (0x00, 2) => 32,
-        (0x00, 3) => 33,
-        (0x00, 4) => 34,
-        (0x00, 5) => 35,
-        (0x20, 5) => 36,
-        (0x00, 6) => 37,
-        (0x00, 7) => 38,
-        (0x01, 0) => 39,
-        (0x01, 1) => 40,
-        (0x01, 2) => 41,
-        (0x01, 3) => 42,
-        (0x01, 4) => 43,
-        (0x01, 5) => 44,
-        (0x01, 6) => 45,
-        (0x01, 7) => 46,
-        _ => 0,
+        (0x00, 0) => codes::ADD,
+        (0x20, 0) => codes::SUB,
+        (0x00, 1) => codes::SLL,
+        (0x00, 2) => codes::SLT,
+        (0x00, 3) => codes::SLTU,
+        (0x00, 4) => codes::XOR,
+        (0x00, 5) => codes::SRL,
+        (0x20, 5) => codes::SRA,
+        (0x00, 6) => codes::OR,
+        (0x00, 7) => codes::AND,
+        (0x01, 0) => codes::MUL,
+        (0x01, 1) => codes::MULH,
+        (0x01, 2) => codes::MULHSU,
+        (0x01, 3) => codes::MULHU,
+        (0x01, 4) => codes::DIV,
+        (0x01, 5) => codes::DIVU,
+        (0x01, 6) => codes::REM,
+        (0x01, 7) => codes::REMU,
+        _ => ILLEGAL_CODE,
     }
 }
 
@@ -145,8 +146,8 @@ fn fence_code(funct3: u32) -> u8
     ensures { result ≡ code_by 0x0F funct3 0 0 }
 {
     match funct3 {
-        0 => 47,
-        _ => 0,
+        0 => codes::FENCE,
+        _ => ILLEGAL_CODE,
     }
 }
 
@@ -156,14 +157,14 @@ fn system_code(word: u32) -> u8
     ensures { result ≡ code_by 0x73 0 0 word }
 {
     match word {
-        0x0000_0073 => 48,
-        0x0010_0073 => 49,
+        0x0000_0073 => codes::ECALL,
+        0x0010_0073 => codes::EBREAK,
         _ => match word >> 12 {
-            0xC0002 => 50,
-            0xC0202 => 51,
-            0xC8002 => 52,
-            0xC8202 => 53,
-            _ => 0,
+            0xC0002 => codes::RDCYCLE,
+            0xC0202 => codes::RDINSTRET,
+            0xC8002 => codes::RDCYCLEH,
+            0xC8202 => codes::RDINSTRETH,
+            _ => ILLEGAL_CODE,
         },
     }
 }

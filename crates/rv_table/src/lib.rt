@@ -23,7 +23,9 @@ mod spelling;
 pub mod trap;
 
 pub use access::{loaded, store_word};
-pub use action::{Access, Action, asked, is_clocked, is_counter, next_address, with_counter};
+pub use action::{
+    Access, Action, asked, is_clocked, is_counter, next_address, with_counter, write_law,
+};
 pub use arithmetic::{alu, holds};
 pub use decoding::decode;
 pub use encoding::{encode, well_formed};

@@ -20,9 +20,8 @@ use crate::Operation::{
     Lui, ReadCounter, Store,
 };
 use crate::StoreKind::{Sb, Sh, Sw};
-use crate::codes;
 use crate::op::{FETCH_FAULT_CODE, ILLEGAL_CODE};
-use crate::{Form, Operation};
+use crate::{Form, Operation, codes};
 
 /// The bits of a word that say which instruction it is: opcode, funct3 and funct7 as far as they are given, all bits, or all but
 /// those of rd (the RISC-V specification's fields).

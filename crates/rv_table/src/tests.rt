@@ -110,12 +110,29 @@ fn an_action_is_judged(rt: HostRuntime) {
             writes: false
         })
     );
-    assert_eq!(rt; load.judged(false, false), Action::Traps(5));
+    assert_eq!(rt; load.judged(false, false), Action::Traps(trap::LOAD_FAULT));
     // a jump to address 2
-    assert_eq!(rt; asked(&decode(0x0020_006F), 0, 0, 0), Action::Traps(2));
+    assert_eq!(rt;
+        asked(&decode(0x0020_006F), 0, 0, 0),
+        Action::Traps(trap::MISALIGNED_TARGET)
+    );
     assert_eq!(rt; loaded(LoadKind::Lh, 0x8_0002, 0x8001_7FFF), 0xFFFF_8001);
     assert_eq!(rt;
         store_word(StoreKind::Sb, 0x8_0003, 0x1234_5678),
         0x7800_0000
     );
+}
+
+#[test]
+fn rows_are_found_by_code_and_by_name(rt: HostRuntime) -> Result<(), Fail> {
+    table_law();
+    write_law();
+    let row = row_named(b"divu").ok_or("no row")?;
+    assert_eq!(rt; row.code, codes::DIVU);
+    assert_eq!(rt; delay_of(codes::DIVU), 15);
+    assert_eq!(rt; delay_of(codes::MULH), 2);
+    assert!(rt; row_named(b"illegal").is_none());
+    assert_eq!(rt; row_of(63).mnemonic, "illegal");
+    assert_eq!(rt; register_name(8), "s0");
+    Ok(())
 }

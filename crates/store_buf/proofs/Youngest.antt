@@ -28,7 +28,8 @@ found-push (s ∷ stores) e addr lane =
     ∙ or_assoc (held e addr lane) (found stores addr lane) (held s addr lane)
 
 -- a slot more is read
-pub found-more : (slots : List Entry) (i : ℕ) (x d : Entry) (addr lane : ℕ) → i < length slots → x ≡ get_or slots i d → found (take (i + 1) slots) addr lane ≡ option_or (held x addr lane) (found (take i slots) addr lane)
+pub found-more : (slots : List Entry) (i : ℕ) (x d : Entry) (addr lane : ℕ) → i < length slots → x ≡ get_or slots i d
+    → found (take (i + 1) slots) addr lane ≡ option_or (held x addr lane) (found (take i slots) addr lane)
 found-more slots i x d addr lane l is =
     ap (λ (xs : List Entry). found xs addr lane) (take_more slots i d l)
     ∙ found-push (take i slots) (get_or slots i d) addr lane
@@ -44,7 +45,8 @@ held-free e addr lane free =
     let lanes : has_lane e.mask lane ≡ false = ap (λ (m : ℕ). has_lane m lane) (mask-free e free) ∙ has_lane-zero lane in
     grind (arith, nat_tests)
 
-found_kept : (e : Entry) (stores slots : List Entry) (addr lane : ℕ) (b : Bool) → is_pending e ≡ b → found stores addr lane ≡ found slots addr lane → found (cond b (e ∷ stores) stores) addr lane ≡ option_or (found slots addr lane) (held e addr lane)
+found_kept : (e : Entry) (stores slots : List Entry) (addr lane : ℕ) (b : Bool) → is_pending e ≡ b → found stores addr lane ≡ found slots addr lane
+    → found (cond b (e ∷ stores) stores) addr lane ≡ option_or (found slots addr lane) (held e addr lane)
 unfolding found
 found_kept e stores slots addr lane true used same = ap (λ (o : Option ℕ). option_or o (held e addr lane)) same
 found_kept e stores slots addr lane false free same =

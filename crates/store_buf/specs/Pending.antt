@@ -1,5 +1,6 @@
 -- The stores that wait in the buffer, whatever its slots hold.
-use Rattle.std.specs.Prelude.{ℕ, ◌-◌, ◌==◌, Bool, not, List, [], ◌∷◌, ◌++◌, length, filter, replicate, slice_index_or, Option, Some, None}
+use Rattle.std.specs.Prelude.{ℕ, ◌==◌, Bool, not, List, [], ◌∷◌, filter, slice_index_or, Option, Some, None}
+use Rattle.bit_field.specs.Slots.{in_front}
 use Rattle.store_buf.specs.Entry.{Entry, no_entry}
 use Rattle.store_buf.specs.declared.buffer.TheConstants.{SLOTS}
 
@@ -10,9 +11,9 @@ is_pending e = not (e.mask == 0)
 abbrev pub pending : List Entry → List Entry
 pending slots = filter is_pending slots
 
--- the four slots with a list of stores in front and free slots behind them
+-- the slots with a list of stores in front and free slots behind them
 abbrev pub packed : List Entry → List Entry
-packed stores = stores ++ replicate (SLOTS - length stores) no_entry
+packed = in_front SLOTS no_entry
 
 abbrev pub slot_of : List Entry → ℕ → Entry
 slot_of slots k = slice_index_or slots k no_entry

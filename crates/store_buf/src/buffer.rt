@@ -6,7 +6,7 @@ ghost use Rattle.store_buf.specs.Pending.{pending, packed, slot_of, oldest, youn
 ghost use Rattle.store_buf.specs.Covers.{found, is_found, is_missing, all_found, none_found, byte_found, word_found, covered};
 
 use crate::cover::Cover;
-use crate::pending::{Pending, SLOT_BITS, free_slot};
+use crate::pending::{PENDING_BITS, Pending, free_slot};
 use bit_field::{SB_BITS, Struck, has_lane};
 use std::marker::Model;
 
@@ -50,13 +50,13 @@ impl Struck for StoreBuf {
     }
 
     fn bit(&self, k: u32) -> bool {
-        let slot = &self.slots[(k / SLOT_BITS) as usize];
-        slot.bit(k % SLOT_BITS)
+        let slot = &self.slots[(k / PENDING_BITS) as usize];
+        slot.bit(k % PENDING_BITS)
     }
 
     fn flip(&mut self, k: u32) {
-        let slot = &mut self.slots[(k / SLOT_BITS) as usize];
-        slot.flip(k % SLOT_BITS);
+        let slot = &mut self.slots[(k / PENDING_BITS) as usize];
+        slot.flip(k % PENDING_BITS);
     }
 
     fn fits(&self) {

@@ -14,7 +14,7 @@ mod pending;
 
 pub use buffer::{SLOTS, StoreBuf};
 pub use cover::Cover;
-pub use pending::{PENDING_FIELDS, Pending, PendingField, SLOT_BITS};
+pub use pending::{PENDING_BITS, PENDING_FIELDS, Pending, PendingField};
 
 #[cfg(test)]
 mod tests;

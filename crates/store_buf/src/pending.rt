@@ -8,7 +8,7 @@ use bit_field::{Field, Struck, bit_at, field_at, flip_at_u8, flip_at_u32, has_la
 use std::marker::Model;
 
 /// The bits of a slot.
-pub const SLOT_BITS: u32 = 66;
+pub const PENDING_BITS: u32 = 66;
 
 /// A store to one word that waits for the cache; with mask 0 a free slot.
 #[derive(Clone, Copy, PartialEq, Eq, Debug)]
@@ -50,9 +50,9 @@ pub const PENDING_FIELDS: [PendingField; 3] = [
 ];
 
 impl Field for PendingField {
-    ghost use Rattle.store_buf.specs.EntryBits as bits;
+    ghost use Rattle.store_buf.specs.EntryBits as pending_bits;
 
-    ghost width_of = { bits.width };
+    ghost width_of = { pending_bits.width };
 
     fn width(self) -> u32 {
         match self {
@@ -65,18 +65,18 @@ impl Field for PendingField {
 
 impl Struck for Pending {
     ghost use Rattle.bit_field.specs.Layouts.{bit_count as bits_of_layout};
-    ghost use Rattle.store_buf.specs.EntryBits as bits;
+    ghost use Rattle.store_buf.specs.EntryBits as pending_bits;
 
-    ghost IsFit = { bits.IsFit };
+    ghost IsFit = { pending_bits.IsFit };
 
-    ghost bit_count = { λ _. bits_of_layout bits.layout };
+    ghost bit_count = { λ _. bits_of_layout pending_bits.layout };
 
-    ghost bit_of = { bits.bit_of };
+    ghost bit_of = { pending_bits.bit_of };
 
-    ghost flipped = { bits.flipped };
+    ghost flipped = { pending_bits.flipped };
 
     fn bits(&self) -> u32 {
-        SLOT_BITS
+        PENDING_BITS
     }
 
     fn bit(&self, k: u32) -> bool {
@@ -103,19 +103,19 @@ impl Struck for Pending {
 
 impl Pending {
     ghost use Rattle.std.specs.Prelude.{Some};
-    ghost use Rattle.store_buf.specs.EntryBits as bits;
+    ghost use Rattle.store_buf.specs.EntryBits as pending_bits;
 
     /// The field that holds a bit, and which of the field's own bits that is, both counted from 0.
     pub fn field_at(bit: u32) -> (PendingField, u32)
-        requires { bit < SLOT_BITS }
-        ensures { bits.field_of bit ≡ Some result }
+        requires { bit < PENDING_BITS }
+        ensures { pending_bits.field_of bit ≡ Some result }
     {
         field_at(&PENDING_FIELDS, bit)
     }
 
     // The number that a field holds.
     fn value(&self, field: PendingField) -> u32
-        ensures { result ≡ bits.value self.now field }
+        ensures { result ≡ pending_bits.value self.now field }
     {
         match field {
             PendingField::Mask => u32::from(self.mask),

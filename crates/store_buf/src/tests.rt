@@ -39,7 +39,7 @@ fn a_slot_is_a_row_of_fields(rt: HostRuntime) {
         (PendingField::Value, 34, 65),
     ];
     for (field, first, last) in rows {
-        assert!(rt; first <= last && last < SLOT_BITS);
+        assert!(rt; first <= last && last < PENDING_BITS);
         assert!(rt; Pending::field_at(first) == (field, 0), "bit {first}");
         assert!(rt;
             Pending::field_at(last) == (field, last - first),

@@ -10,7 +10,8 @@ use Rattle.wb_cache.specs.declared.event.CacheEvent.{CacheEvent}
 use Rattle.event_log.specs.Cycles.{first_from}
 use Rattle.event_log.specs.Events.{IsEventLog, cycles_of, first_event}
 use Rattle.event_log.proofs.Logs.{first-cycles, rising-cycles}
-use Rattle.tag_dist.specs.Lines.{fills, has_line, is_by, last_access, looked_up}
+use Rattle.event_log.specs.Lookups.{fills, has_line, is_by, looked_up}
+use Rattle.tag_dist.specs.Lines.{last_access}
 use Rattle.tag_dist.specs.Tables.{IsTableOf, IsTables, Tables, asked_in, comes_by, last_in, looked_up_in}
 
 -- the order of two events is that of their cycles
@@ -19,16 +20,21 @@ comes-is None b = refl
 comes-is (Some e) None = refl
 comes-is (Some e) (Some d) = refl
 
-module _ (events : List CacheEvent) (entries : List Retired) (shape : Shape) (last : List (ℕ × ℕ)) (asked : List (ℕ × List ℕ)) (filled : List (List ℕ)) (is : IsShape shape) (log : IsEventLog shape events)
-    (places : length filled ≡ slots shape) (lines : (line : ℕ) → asked_in asked line ≡ cycles_of (has_line line) events) (lists : (l : ℕ) → l < slots shape → get_or filled l [] ≡ cycles_of (fills shape l) events) (accessed : (line : ℕ) → last_in last line ≡ last_access line entries) where
+module _ (events : List CacheEvent) (entries : List Retired) (shape : Shape) (last : List (ℕ × ℕ)) (asked : List (ℕ × List ℕ)) (filled : List (List ℕ))
+    (is : IsShape shape) (log : IsEventLog shape events)
+    (places : length filled ≡ slots shape) (lines : (line : ℕ) → asked_in asked line ≡ cycles_of (has_line line) events)
+    (lists : (l : ℕ) → l < slots shape → get_or filled l [] ≡ cycles_of (fills shape l) events)
+    (accessed : (line : ℕ) → last_in last line ≡ last_access line entries) where
   abbrev table : Tables
   table = record { shape = shape; last = last; asked = asked; filled = filled }
 
   looked-all : (l line t : ℕ) → l < slots shape → looked_up_in table l line t ≡ looked_up shape l line t events
   unfolding looked_up_in looked_up
   looked-all l line t h =
-      let a : first_from t (asked_in asked line) ≡ option_map (λ e. e.cycle) (first_event (has_line line) t events) = ap (first_from t) (lines line) ∙ first-cycles (has_line line) t events in
-      let f : first_from t (get_or filled l []) ≡ option_map (λ e. e.cycle) (first_event (fills shape l) t events) = ap (first_from t) (lists l h) ∙ first-cycles (fills shape l) t events in
+      let a : first_from t (asked_in asked line) ≡ option_map (λ e. e.cycle) (first_event (has_line line) t events) = ap (first_from t) (lines line)
+      ∙ first-cycles (has_line line) t events in
+      let f : first_from t (get_or filled l []) ≡ option_map (λ e. e.cycle) (first_event (fills shape l) t events) = ap (first_from t) (lists l h)
+      ∙ first-cycles (fills shape l) t events in
       rw (a, f) (comes-is (first_event (has_line line) t events) (first_event (fills shape l) t events))
 
   pub tables-all : IsTables table

@@ -9,7 +9,8 @@ use Rattle.rv_isa.specs.declared.effect.Retired.{Retired}
 use Rattle.wb_cache.specs.declared.event.CacheEvent.{CacheEvent}
 use Rattle.event_log.specs.Events.{cycles_of}
 use Rattle.event_log.proofs.Logs.{cycles-more}
-use Rattle.tag_dist.specs.Lines.{accesses, fills, has_line, is_fill, last_below}
+use Rattle.event_log.specs.Lookups.{fills, has_line, is_fill}
+use Rattle.tag_dist.specs.Lines.{accesses, last_below}
 use Rattle.tag_dist.specs.Tables.{asked_in, last_in}
 
 -- the lists of lines once the first n events are noted
@@ -20,7 +21,8 @@ pub asked-none : (events : List CacheEvent) → IsAsked events 0 []
 unfolding cycles_of
 asked-none events line = refl
 
-pub asked-more : (events : List CacheEvent) (n : ℕ) (e : CacheEvent) (old new : List (ℕ × List ℕ)) → n < length events → e ≡ get_or events n e → ((p : ℕ) → asked_in new p ≡ cond (e.line == p) (asked_in old p ++ e.cycle ∷ []) (asked_in old p)) → IsAsked events n old → IsAsked events (n + 1) new
+pub asked-more : (events : List CacheEvent) (n : ℕ) (e : CacheEvent) (old new : List (ℕ × List ℕ)) → n < length events → e ≡ get_or events n e →
+    ((p : ℕ) → asked_in new p ≡ cond (e.line == p) (asked_in old p ++ e.cycle ∷ []) (asked_in old p)) → IsAsked events n old → IsAsked events (n + 1) new
 asked-more events n e old new l h grown asked line = grown line ∙ rw (asked line) (sym (cycles-more (has_line line) events n e l h))
 
 -- the lists of slots once the first n events are noted
@@ -35,7 +37,10 @@ filled-none shape events = record {
   list = λ l h. get_or-replicate (slots shape) l [] [] h;
 }
 
-pub filled-more : (shape : Shape) (events : List CacheEvent) (n slot : ℕ) (e : CacheEvent) (old new : List (List ℕ)) → n < length events → e ≡ get_or events n e → slot ≡ shape.ways * e.set + e.way → length new ≡ length old → ((l : ℕ) → get_or new l [] ≡ cond (slot == l && is_fill e.kind) (get_or old l [] ++ e.cycle ∷ []) (get_or old l [])) → IsFilled shape events n old → IsFilled shape events (n + 1) new
+pub filled-more : (shape : Shape) (events : List CacheEvent) (n slot : ℕ) (e : CacheEvent) (old new : List (List ℕ)) → n < length events →
+    e ≡ get_or events n e → slot ≡ shape.ways * e.set + e.way → length new ≡ length old →
+    ((l : ℕ) → get_or new l [] ≡ cond (slot == l && is_fill e.kind) (get_or old l [] ++ e.cycle ∷ []) (get_or old l [])) → IsFilled shape events n old →
+    IsFilled shape events (n + 1) new
 filled-more shape events n slot e old new l h at same grown filled = record {
   places = same ∙ filled.places;
   list = λ i m. grown i ∙ rw (at, filled.list i m) (sym (cycles-more (fills shape i) events n e l h));
@@ -56,6 +61,7 @@ last-step : (n : ℕ) (b : Bool) (test : ℕ → Bool) → test n ≡ b → cond
 unfolding last_below
 last-step n b test e = let s : n + 1 ≡ suc n = omega arith in rw (s, e) refl
 
-pub last-more : (entries : List Retired) (n : ℕ) (entry : Retired) (old new : List (ℕ × ℕ)) → slice_get entries n ≡ Some entry → ((line : ℕ) → last_in new line ≡ cond (accesses line entry) (Some n) (last_in old line)) → IsLast entries n old → IsLast entries (n + 1) new
+pub last-more : (entries : List Retired) (n : ℕ) (entry : Retired) (old new : List (ℕ × ℕ)) → slice_get entries n ≡ Some entry →
+    ((line : ℕ) → last_in new line ≡ cond (accesses line entry) (Some n) (last_in old line)) → IsLast entries n old → IsLast entries (n + 1) new
 last-more entries n entry old new at grown last line =
     grown line ∙ rw (last line) (last-step n (accesses line entry) (accesses_at entries line) (ap (λ e. option_map_or (accesses line) e false) at))

@@ -9,7 +9,8 @@ use Rattle.bit_field.specs.declared.shapes.Shape.{Shape}
 use Rattle.rv_isa.specs.declared.effect.Retired.{Retired}
 use Rattle.wb_cache.specs.declared.event.CacheEvent.{CacheEvent}
 use Rattle.event_log.specs.Cycles.{IsRising, first_from}
-use Rattle.tag_dist.specs.Lines.{last_access, looked_up}
+use Rattle.event_log.specs.Lookups.{looked_up}
+use Rattle.tag_dist.specs.Lines.{last_access}
 
 pub record Tables : Type 0 where
   pub shape : Shape

@@ -1,10 +1,11 @@
 // The last instruction that accesses each line.
 ghost use Rattle.std.specs.Prelude.{◌≡◌, ◌/◌, ◌==◌, ℕ, Some, if◌then◌else◌, IfOk, OnOk, length};
+ghost use Rattle.rv_isa.specs.Accesses.{recorded_address};
 ghost use Rattle.tag_dist.specs.Lines.{accesses, last_access};
 ghost use Rattle.tag_dist.specs.Tables.{last_in};
 
 use avf_base::OutOfMemory;
-use rv_isa::{Retired, Trace};
+use rv_isa::{Effect, Retired, Trace};
 use std::alloc::Global;
 use std::collections::BTreeMap;
 
@@ -16,17 +17,25 @@ fn note_address(last: &mut BTreeMap<u32, u32>, address: u32, i: u32) -> Result<(
     Ok(())
 }
 
-/// Instruction `i` is the last so far that accesses the lines that it loads from and stores to.
+/// The byte address that an instruction loads from or stores to.
+fn accessed_address(effect: &Effect) -> Option<u32>
+    ensures { result ≡ recorded_address effect.now }
+{
+    match (effect.load, effect.store) {
+        (Some((address, _)), _) => Some(address),
+        (None, Some((address, _, _))) => Some(address),
+        (None, None) => None,
+    }
+}
+
+/// Instruction `i` is the last so far that accesses the line that it loads from or stores to.
 fn note_entry(last: &mut BTreeMap<u32, u32>, entry: &Retired, i: u32) -> Result<(), OutOfMemory>
     ensures { OnOk result ((line : ℕ) → last_in last.new.entries line ≡ (if accesses line entry.now then Some i else last_in last.old.entries line)) }
 {
-    if let Some((address, _)) = entry.effect.load {
-        note_address(last, address, i)?;
+    match accessed_address(&entry.effect) {
+        Some(address) => note_address(last, address, i),
+        None => Ok(()),
     }
-    if let Some((address, _, _)) = entry.effect.store {
-        note_address(last, address, i)?;
-    }
-    Ok(())
 }
 
 /// Of each line that a run accesses the last instruction that does.

@@ -1,7 +1,7 @@
 // Lines that differ in one bit of their tags.
 ghost use Rattle.std.specs.Prelude.{◌≡◌, ◌^◌, ◌<◌};
 ghost use Rattle.bit_field.specs.Shapes.{IsShape, tag_bits};
-ghost use Rattle.tag_dist.specs.Lines as lines;
+ghost use Rattle.event_log.specs.Lookups as lookups;
 
 use bit_field::Shape;
 
@@ -11,7 +11,7 @@ pub fn distance_one(shape: &Shape, line: u32, bit: u32) -> u32
     requires shape { IsShape shape.now }
     requires line { line < 2 ^ 28 }
     requires bit { bit < tag_bits shape.now }
-    ensures { result ≡ lines.distance_one shape.now line bit }
+    ensures { result ≡ lookups.distance_one shape.now line bit }
 {
     let sets = u32::from(shape.sets);
     sets * ((line / sets) ^ (1 << bit)) + line % sets

@@ -1,8 +1,9 @@
 // When each line is asked for, and when each slot is filled.
 ghost use Rattle.std.specs.Prelude.{◌≡◌, ◌<◌, ◌==◌, ◌&&◌, ◌++◌, ◌∷◌, ℕ, [], if◌then◌else◌, IfOk, OnOk, length, replicate, slice_index_or};
 ghost use Rattle.bit_field.specs.Shapes.{IsShape, slots};
+ghost use Rattle.event_log.specs.Cycles.{pushed_if};
 ghost use Rattle.event_log.specs.Events.{IsEventLog, cycles_of};
-ghost use Rattle.tag_dist.specs.Lines.{fills, has_line, is_fill};
+ghost use Rattle.event_log.specs.Lookups.{fills, has_line, is_fill};
 ghost use Rattle.tag_dist.specs.Tables.{asked_in};
 
 use avf_base::OutOfMemory;
@@ -30,7 +31,7 @@ fn note_line(
     line: u32,
     cycle: u32,
 ) -> Result<(), OutOfMemory>
-    ensures { OnOk result ((p : ℕ) → asked_in asked.new.entries p ≡ (if line == p then asked_in asked.old.entries p ++ cycle ∷ [] else asked_in asked.old.entries p)) }
+    ensures { OnOk result ((p : ℕ) → asked_in asked.new.entries p ≡ pushed_if (line == p) cycle (asked_in asked.old.entries p)) }
 {
     match asked.get_mut(&line) {
         Some(cycles) => cycles.push(cycle),
@@ -46,7 +47,7 @@ fn note_line(
 /// A slot is filled by an event, if that is a fill.
 fn note_fill(filled: &mut [CycleList], slot: usize, event: &CacheEvent) -> Result<(), OutOfMemory>
     requires { slot < length filled.old }
-    ensures { OnOk result ((l : ℕ) → slice_index_or filled.new l [] ≡ (if slot == l && is_fill event.now.kind then slice_index_or filled.old l [] ++ event.now.cycle ∷ [] else slice_index_or filled.old l [])) }
+    ensures { OnOk result ((l : ℕ) → slice_index_or filled.new l [] ≡ pushed_if (slot == l && is_fill event.now.kind) event.now.cycle (slice_index_or filled.old l [])) }
 {
     match event.kind {
         EventKind::Fill => filled[slot].push(event.cycle),

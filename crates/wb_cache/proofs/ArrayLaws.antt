@@ -12,7 +12,9 @@ pub data_laws : FlipLaws (All (λ b. b < 2 ^ 8)) (λ xs. length xs * 8) bit_of_d
 data_laws = laws_of_list 8 0 (λ b. b < 2 ^ 8) bit_at (λ v j. bit_xor v (2 ^ j)) (omega arith) (laws_of_number 8)
 
 -- what the number of bits says of the width: each of these widths has its own numbers of bits
-same_width_by : (v w n m : ℕ) → (v ≡ 21) ⊎ (v ≡ 22) ⊎ (v ≡ 23) ⊎ (v ≡ 24) → (w ≡ 21) ⊎ (w ≡ 22) ⊎ (w ≡ 23) ⊎ (w ≡ 24) → (n ≡ 2 ^ (28 - v)) ⊎ (n ≡ 2 * 2 ^ (28 - v)) ⊎ (n ≡ 4 * 2 ^ (28 - v)) → (m ≡ 2 ^ (28 - w)) ⊎ (m ≡ 2 * 2 ^ (28 - w)) ⊎ (m ≡ 4 * 2 ^ (28 - w)) → n * v ≡ m * w → v ≡ w
+same_width_by : (v w n m : ℕ) → (v ≡ 21) ⊎ (v ≡ 22) ⊎ (v ≡ 23) ⊎ (v ≡ 24) → (w ≡ 21) ⊎ (w ≡ 22) ⊎ (w ≡ 23) ⊎ (w ≡ 24)
+    → (n ≡ 2 ^ (28 - v)) ⊎ (n ≡ 2 * 2 ^ (28 - v)) ⊎ (n ≡ 4 * 2 ^ (28 - v)) → (m ≡ 2 ^ (28 - w)) ⊎ (m ≡ 2 * 2 ^ (28 - w)) ⊎ (m ≡ 4 * 2 ^ (28 - w))
+    → n * v ≡ m * w → v ≡ w
 same_width_by v w n m p q r s e = grind arith
 
 shows : ShowsNumbers IsFit (λ t. t.width) (λ t. t.tags) flipped

@@ -20,7 +20,9 @@ no_byte false x e = refl
 
 empty_at : (shape : Shape) (l : ℕ) → slot_at (empty shape) l ≡ no_slot
 unfolding slot_at empty
-empty_at shape l = same_slot _ _ (same_everywhere (slot_count shape) l false) (same_everywhere (slot_count shape) l false) (same_everywhere (slot_count shape) l 0) (λ o. no_byte (nat_lt o 16) _ (same_everywhere (16 * slot_count shape) (16 * l + o) 0))
+empty_at shape l =
+    same_slot _ _ (same_everywhere (slot_count shape) l false) (same_everywhere (slot_count shape) l false) (same_everywhere (slot_count shape) l 0)
+    (λ o. no_byte (nat_lt o 16) _ (same_everywhere (16 * slot_count shape) (16 * l + o) 0))
 
 empty_by : (b : Bool) (slot : Slot) → slot ≡ no_slot → cond b slot no_slot ≡ no_slot
 empty_by true slot e = e

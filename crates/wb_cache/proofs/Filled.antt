@@ -17,22 +17,31 @@ use Rattle.wb_cache.proofs.Sizes.{slot_below}
 use Rattle.wb_cache.proofs.Slots.{slots-changed, same_slot}
 use Rattle.wb_cache.proofs.Written.{byte_by}
 
-filled_byte : (image : LoadedImage) (line l o : ℕ) (memory bytes : List ℕ) → IsImage image → length memory ≡ length image.ram → 16 * l + 16 ≤ length bytes → cond (nat_lt o 16) (slice_index (replace_range bytes (16 * l) (16 * l + 16) (line_bytes image line memory)) (16 * l + o)) 0 ≡ cond (nat_lt o 16) (ram_byte image memory (16 * line + o)) 0
+filled_byte : (image : LoadedImage) (line l o : ℕ) (memory bytes : List ℕ) → IsImage image → length memory ≡ length image.ram → 16 * l + 16 ≤ length bytes
+    → cond (nat_lt o 16) (slice_index (replace_range bytes (16 * l) (16 * l + 16) (line_bytes image line memory)) (16 * l + o)) 0 ≡ cond (nat_lt o 16)
+    (ram_byte image memory (16 * line + o)) 0
 filled_byte image line l o memory bytes is long within =
     byte_by o (cases_lt o 16) _ _
-    (λ m. replaced-in bytes (line_bytes image line memory) (16 * l) (16 * l + 16) o (omega (arith, length-line_bytes image line memory is long)) within (omega (arith, length-line_bytes image line memory is long))
+    (λ m. replaced-in bytes (line_bytes image line memory) (16 * l) (16 * l + 16) o (omega (arith, length-line_bytes image line memory is long)) within
+    (omega (arith, length-line_bytes image line memory is long))
     ∙ line_bytes-read image line o memory is m
     ∙ grind (arith, nat_tests))
     (λ m. grind (arith, nat_tests))
 
-kept_byte : (image : LoadedImage) (line l m o : ℕ) (memory bytes : List ℕ) → IsImage image → length memory ≡ length image.ram → 16 * l + 16 ≤ length bytes → m ≢ l → cond (nat_lt o 16) (slice_index (replace_range bytes (16 * l) (16 * l + 16) (line_bytes image line memory)) (16 * m + o)) 0 ≡ cond (nat_lt o 16) (slice_index bytes (16 * m + o)) 0
+kept_byte : (image : LoadedImage) (line l m o : ℕ) (memory bytes : List ℕ) → IsImage image → length memory ≡ length image.ram → 16 * l + 16 ≤ length bytes
+    → m ≢ l
+    → cond (nat_lt o 16) (slice_index (replace_range bytes (16 * l) (16 * l + 16) (line_bytes image line memory)) (16 * m + o)) 0 ≡ cond (nat_lt o 16)
+    (slice_index bytes (16 * m + o)) 0
 kept_byte image line l m o memory bytes is long within ne =
     byte_by o (cases_lt o 16) _ _
-    (λ p. replaced-off bytes (line_bytes image line memory) (16 * l) (16 * l + 16) (16 * m + o) (omega (arith, length-line_bytes image line memory is long)) within (elim (cases_lt m l) [ inl q ↦ inl (omega arith) | inr q ↦ inr (omega arith) ])
+    (λ p. replaced-off bytes (line_bytes image line memory) (16 * l) (16 * l + 16) (16 * m + o)
+    (omega (arith, length-line_bytes image line memory is long)) within (elim (cases_lt m l) [ inl q ↦ inl (omega arith) | inr q ↦ inr (omega arith) ])
     ∙ grind (arith, nat_tests))
     (λ p. grind (arith, nat_tests))
 
-pub slots-filled : (image : LoadedImage) (line way : ℕ) (memory : List ℕ) (c : Contents) → IsImage image → length memory ≡ length image.ram → IsSized c → set_of c.shape line < c.shape.sets → way < c.shape.ways → slots (filled image line way memory c) ≡ put_slot (set_of c.shape line) way (filled_slot c.shape (ram_byte image memory) line) (slots c)
+pub slots-filled : (image : LoadedImage) (line way : ℕ) (memory : List ℕ) (c : Contents) → IsImage image → length memory ≡ length image.ram → IsSized c
+    → set_of c.shape line < c.shape.sets → way < c.shape.ways
+    → slots (filled image line way memory c) ≡ put_slot (set_of c.shape line) way (filled_slot c.shape (ram_byte image memory) line) (slots c)
 unfolding filled slot_at filled_slot
 slots-filled image line way memory c is long sized h l =
     let below = slot_below c.shape (set_of c.shape line) way sized.shape h l in

@@ -41,7 +41,8 @@ pub record IsFirst (n : ℕ) (test : ℕ → Bool) (w : ℕ) : Type 0 where
   pub passes : test w ≡ true
   pub first : (k : ℕ) → k < w → test k ≡ false
 
-none_before : (n : ℕ) (test : ℕ → Bool) (found : Option ℕ) (b : Bool) → first_below n test ≡ found → test n ≡ b → or_at found b n ≡ None → (found ≡ None) × (b ≡ false)
+none_before : (n : ℕ) (test : ℕ → Bool) (found : Option ℕ) (b : Bool) → first_below n test ≡ found → test n ≡ b → or_at found b n ≡ None
+    → (found ≡ None) × (b ≡ false)
 none_before n test (Some w) b h e m = absurd cc
 none_before n test None true h e m = absurd cc
 none_before n test None false h e m = (refl, refl)
@@ -62,7 +63,8 @@ first_below-nothing (suc n) test fails = rw (first_below-nothing n test (λ k l.
 pub first_below-is : (n w : ℕ) (test : ℕ → Bool) → IsFirst n test w → first_below n test ≡ Some w
 first_below-is n w test first = first_below-found n w test first.below (first_below-nothing w test first.first) first.passes
 
-some_before : (n w : ℕ) (test : ℕ → Bool) (found : Option ℕ) (b : Bool) → first_below n test ≡ found → test n ≡ b → or_at found b n ≡ Some w → (first_below n test ≡ Some w) ⊎ ((w ≡ n) × (first_below n test ≡ None) × (test n ≡ true))
+some_before : (n w : ℕ) (test : ℕ → Bool) (found : Option ℕ) (b : Bool) → first_below n test ≡ found → test n ≡ b → or_at found b n ≡ Some w
+    → (first_below n test ≡ Some w) ⊎ ((w ≡ n) × (first_below n test ≡ None) × (test n ≡ true))
 some_before n w test (Some v) b h e m = inl (h ∙ m)
 some_before n w test None true h e m = inr (cc, h, e)
 some_before n w test None false h e m = absurd cc
@@ -72,7 +74,8 @@ unfolding first_below
 first_below-some zero w test h = absurd cc
 first_below-some (suc n) w test h =
     elim (some_before n w test (first_below n test) (test n) refl refl h) [
-      | inl m ↦ let before : IsFirst n test w = first_below-some n w test m in record { below = omega (arith, before.below); passes = before.passes; first = before.first }
+      | inl m ↦ let before : IsFirst n test w =
+          first_below-some n w test m in record { below = omega (arith, before.below); passes = before.passes; first = before.first }
       | inr m ↦ record { below = omega (arith, m.0); passes = ap test m.0 ∙ m.2; first = λ k l. first_below-none n test m.1 k (omega (arith, m.0)) }
     ]
 

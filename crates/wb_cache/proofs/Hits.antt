@@ -5,7 +5,8 @@ use Rattle.wb_cache.specs.Contents.{Contents, slots}
 use Rattle.wb_cache.specs.Lookup.{way_of, set_of}
 use Rattle.wb_cache.specs.Access.{word_of, byte_of, word_at, read, written, put, touched}
 
-pub word_of-hit : (c : Contents) (line word way : ℕ) → Some way ≡ way_of c.shape (slots c) line → word_of c line word ≡ Some (word_at (slots c (set_of c.shape line) way) word)
+pub word_of-hit : (c : Contents) (line word way : ℕ) → Some way ≡ way_of c.shape (slots c) line
+    → word_of c line word ≡ Some (word_at (slots c (set_of c.shape line) way) word)
 unfolding word_of
 word_of-hit c line word way h = rw (sym h)
 
@@ -13,7 +14,8 @@ pub word_of-miss : (c : Contents) (line word : ℕ) → None ≡ way_of c.shape 
 unfolding word_of
 word_of-miss c line word h = rw (sym h)
 
-pub byte_of-hit : (c : Contents) (addr way : ℕ) → Some way ≡ way_of c.shape (slots c) (addr / 16) → byte_of c addr ≡ Some ((slots c (set_of c.shape (addr / 16)) way).bytes (addr % 16))
+pub byte_of-hit : (c : Contents) (addr way : ℕ) → Some way ≡ way_of c.shape (slots c) (addr / 16)
+    → byte_of c addr ≡ Some ((slots c (set_of c.shape (addr / 16)) way).bytes (addr % 16))
 unfolding byte_of
 byte_of-hit c addr way h = rw (sym h)
 
@@ -29,7 +31,8 @@ pub read-miss : (c : Contents) (line : ℕ) → None ≡ way_of c.shape (slots c
 unfolding read
 read-miss c line h = rw (sym h)
 
-pub written-hit : (c : Contents) (line word mask value way : ℕ) → Some way ≡ way_of c.shape (slots c) line → written line word mask value c ≡ put (set_of c.shape line) way word mask value c
+pub written-hit : (c : Contents) (line word mask value way : ℕ) → Some way ≡ way_of c.shape (slots c) line
+    → written line word mask value c ≡ put (set_of c.shape line) way word mask value c
 unfolding written
 written-hit c line word mask value way h = rw (sym h)
 

@@ -17,10 +17,14 @@ four_below a b c d (suc (suc (suc (suc i)))) p q r s = omega arith
 pub lane-word_at : (slot : Slot) (word lane : ℕ) → ((o : ℕ) → slot.bytes o < 256) → lane < 4 → lane_byte (word_at slot word) lane ≡ slot.bytes (4 * word + lane)
 unfolding word_at
 lane-word_at slot word lane bytes h =
-    ap (λ (bs : List ℕ). slice_index bs lane) (le_bytes_4 (slot.bytes (4 * word) ∷ slot.bytes (4 * word + 1) ∷ slot.bytes (4 * word + 2) ∷ slot.bytes (4 * word + 3) ∷ []) _ refl (λ i. four_below _ _ _ _ i (bytes (4 * word)) (bytes (4 * word + 1)) (bytes (4 * word + 2)) (bytes (4 * word + 3))) refl)
+    ap (λ (bs : List ℕ). slice_index bs lane)
+    (le_bytes_4 (slot.bytes (4 * word) ∷ slot.bytes (4 * word + 1) ∷ slot.bytes (4 * word + 2) ∷ slot.bytes (4 * word + 3) ∷ []) _ refl
+    (λ i. four_below _ _ _ _ i (bytes (4 * word)) (bytes (4 * word + 1)) (bytes (4 * word + 2)) (bytes (4 * word + 3))) refl)
     ∙ pick lane h
   where
-    pick : (lane : ℕ) → lane < 4 → slice_index (slot.bytes (4 * word) ∷ slot.bytes (4 * word + 1) ∷ slot.bytes (4 * word + 2) ∷ slot.bytes (4 * word + 3) ∷ []) lane ≡ slot.bytes (4 * word + lane)
+    pick : (lane : ℕ) → lane < 4
+        → slice_index (slot.bytes (4 * word) ∷ slot.bytes (4 * word + 1) ∷ slot.bytes (4 * word + 2) ∷ slot.bytes (4 * word + 3) ∷ []) lane ≡ slot.bytes
+        (4 * word + lane)
     pick zero l = ap slot.bytes (omega arith)
     pick (suc zero) l = refl
     pick (suc (suc zero)) l = refl

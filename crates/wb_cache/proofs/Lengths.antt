@@ -14,7 +14,10 @@ length-put_lane place mask value lane bytes = grind (arith, length-set)
 pub length-put_word : (place mask value : ℕ) (bytes : List ℕ) → length (put_word place mask value bytes) ≡ length bytes
 unfolding put_word
 length-put_word place mask value bytes =
-    length-put_lane place mask value 3 _ ∙ length-put_lane place mask value 2 _ ∙ length-put_lane place mask value 1 _ ∙ length-put_lane place mask value 0 bytes
+    length-put_lane place mask value 3 _
+    ∙ length-put_lane place mask value 2 _
+    ∙ length-put_lane place mask value 1 _
+    ∙ length-put_lane place mask value 0 bytes
 
 pub length-used : (shape : Shape) (set way : ℕ) (nodes : List Bool) → length (used shape set way nodes) ≡ length nodes
 unfolding used
@@ -24,7 +27,8 @@ pub length-replace : (xs ys : List ℕ) (i j : ℕ) → i + length ys ≡ j → 
 length-replace xs ys i j e h = grind (arith, common_steps)
 
 -- contents with arrays of the same lengths
-pub sized-same : (c e : Contents) → IsSized c → e.shape ≡ c.shape → length e.bytes ≡ length c.bytes → length e.tags ≡ length c.tags → length e.valid ≡ length c.valid → length e.dirty ≡ length c.dirty → length e.nodes ≡ length c.nodes → IsSized e
+pub sized-same : (c e : Contents) → IsSized c → e.shape ≡ c.shape → length e.bytes ≡ length c.bytes → length e.tags ≡ length c.tags
+    → length e.valid ≡ length c.valid → length e.dirty ≡ length c.dirty → length e.nodes ≡ length c.nodes → IsSized e
 sized-same c e h p q r s t u = record {
   shape = rw p h.shape;
   bytes = rw p (q ∙ h.bytes);

@@ -14,14 +14,16 @@ length-range xs i j h l = length-front (j - i) (drop i xs) (omega (arith, length
 pub range-read : (xs : List ℕ) (i j o : ℕ) → i + o < j → slice_index (slice_range xs i j) o ≡ slice_index xs (i + o)
 range-read xs i j o h = get_or-take (j - i) (drop i xs) o 0 (omega arith) ∙ get_or-drop i xs o 0
 
-pub replaced-in : (xs ys : List ℕ) (i j o : ℕ) → i + length ys ≡ j → j ≤ length xs → o < length ys → slice_index (replace_range xs i j ys) (i + o) ≡ slice_index ys o
+pub replaced-in : (xs ys : List ℕ) (i j o : ℕ) → i + length ys ≡ j → j ≤ length xs → o < length ys
+    → slice_index (replace_range xs i j ys) (i + o) ≡ slice_index ys o
 replaced-in xs ys i j o e h l =
     let front : length (take i xs) ≡ i = length-front i xs (omega arith) in
     get_or_append_left (take i xs ++ ys) (drop j xs) 0 (i + o) (omega (arith, length-append (take i xs) ys))
     ∙ get_or-append_right (take i xs) ys i (i + o) 0 front (omega arith)
     ∙ ap (λ (k : ℕ). get_or ys k 0) (omega arith)
 
-pub replaced-off : (xs ys : List ℕ) (i j k : ℕ) → i + length ys ≡ j → j ≤ length xs → (k < i) ⊎ (j ≤ k) → slice_index (replace_range xs i j ys) k ≡ slice_index xs k
+pub replaced-off : (xs ys : List ℕ) (i j k : ℕ) → i + length ys ≡ j → j ≤ length xs → (k < i) ⊎ (j ≤ k)
+    → slice_index (replace_range xs i j ys) k ≡ slice_index xs k
 replaced-off xs ys i j k e h off =
     let front : length (take i xs) ≡ i = length-front i xs (omega arith) in
     elim off [

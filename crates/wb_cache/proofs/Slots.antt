@@ -19,11 +19,13 @@ pub slots-outside : (c : Contents) (set way : ℕ) → (c.shape.sets ≤ set) �
 unfolding slots
 slots-outside c set way h = grind (arith, nat_tests)
 
-pub valid-inside : (c : Contents) (set way : ℕ) → set < c.shape.sets → way < c.shape.ways → (slots c set way).valid ≡ slice_index_or c.valid (slot_of c.shape set way) false
+pub valid-inside : (c : Contents) (set way : ℕ) → set < c.shape.sets → way < c.shape.ways
+    → (slots c set way).valid ≡ slice_index_or c.valid (slot_of c.shape set way) false
 unfolding slot_at
 valid-inside c set way h l = rw (slots-inside c set way h l)
 
-pub dirty-inside : (c : Contents) (set way : ℕ) → set < c.shape.sets → way < c.shape.ways → (slots c set way).dirty ≡ slice_index_or c.dirty (slot_of c.shape set way) false
+pub dirty-inside : (c : Contents) (set way : ℕ) → set < c.shape.sets → way < c.shape.ways
+    → (slots c set way).dirty ≡ slice_index_or c.dirty (slot_of c.shape set way) false
 unfolding slot_at
 dirty-inside c set way h l = rw (slots-inside c set way h l)
 
@@ -31,7 +33,8 @@ pub tag-inside : (c : Contents) (set way : ℕ) → set < c.shape.sets → way <
 unfolding slot_at
 tag-inside c set way h l = rw (slots-inside c set way h l)
 
-pub byte-inside : (c : Contents) (set way o : ℕ) → set < c.shape.sets → way < c.shape.ways → o < 16 → (slots c set way).bytes o ≡ slice_index c.bytes (16 * slot_of c.shape set way + o)
+pub byte-inside : (c : Contents) (set way o : ℕ) → set < c.shape.sets → way < c.shape.ways → o < 16
+    → (slots c set way).bytes o ≡ slice_index c.bytes (16 * slot_of c.shape set way + o)
 unfolding slot_at
 byte-inside c set way o h l m = rw (slots-inside c set way h l) (grind (arith, nat_tests))
 
@@ -64,7 +67,9 @@ put_slot-off : (set way s w : ℕ) (slot : Slot) (cache : ℕ → ℕ → Slot) 
 put_slot-off set way s w slot cache ne = grind (arith, nat_tests)
 
 -- a slot in the shape, or outside
-changed_inside : (c e : Contents) (set way : ℕ) (slot : Slot) → IsShape c.shape → e.shape ≡ c.shape → way < c.shape.ways → slot_at e (slot_of c.shape set way) ≡ slot → ((l : ℕ) → l < slot_count c.shape → l ≢ slot_of c.shape set way → slot_at e l ≡ slot_at c l) → (s w : ℕ) → s < c.shape.sets → w < c.shape.ways → slot_at e (slot_of c.shape s w) ≡ put_slot set way slot (slots c) s w
+changed_inside : (c e : Contents) (set way : ℕ) (slot : Slot) → IsShape c.shape → e.shape ≡ c.shape → way < c.shape.ways
+    → slot_at e (slot_of c.shape set way) ≡ slot → ((l : ℕ) → l < slot_count c.shape → l ≢ slot_of c.shape set way → slot_at e l ≡ slot_at c l) → (s w : ℕ)
+    → s < c.shape.sets → w < c.shape.ways → slot_at e (slot_of c.shape s w) ≡ put_slot set way slot (slots c) s w
 changed_inside c e set way slot shape same l here others s w p q =
     elim (cases_eq (slot_of c.shape s w) (slot_of c.shape set way)) [
       | inl is ↦
@@ -76,13 +81,16 @@ changed_inside c e set way slot shape same l here others s w p q =
           ∙ sym (put_slot-off set way s w slot (slots c) (λ a b. ne (rw (a, b) refl)))
     ]
 
-changed_outside : (c e : Contents) (set way : ℕ) (slot : Slot) → e.shape ≡ c.shape → set < c.shape.sets → way < c.shape.ways → (s w : ℕ) → (c.shape.sets ≤ s) ⊎ (c.shape.ways ≤ w) → slots e s w ≡ put_slot set way slot (slots c) s w
+changed_outside : (c e : Contents) (set way : ℕ) (slot : Slot) → e.shape ≡ c.shape → set < c.shape.sets → way < c.shape.ways → (s w : ℕ)
+    → (c.shape.sets ≤ s) ⊎ (c.shape.ways ≤ w) → slots e s w ≡ put_slot set way slot (slots c) s w
 changed_outside c e set way slot same h l s w out =
     slots-outside e s w (rw same out)
     ∙ sym (slots-outside c s w out)
     ∙ sym (put_slot-off set way s w slot (slots c) (λ a b. elim out [ inl m ↦ omega arith | inr m ↦ omega arith ]))
 
-changed_at : (c e : Contents) (set way : ℕ) (slot : Slot) → IsShape c.shape → e.shape ≡ c.shape → set < c.shape.sets → way < c.shape.ways → slot_at e (slot_of c.shape set way) ≡ slot → ((l : ℕ) → l < slot_count c.shape → l ≢ slot_of c.shape set way → slot_at e l ≡ slot_at c l) → (s w : ℕ) → slots e s w ≡ put_slot set way slot (slots c) s w
+changed_at : (c e : Contents) (set way : ℕ) (slot : Slot) → IsShape c.shape → e.shape ≡ c.shape → set < c.shape.sets → way < c.shape.ways
+    → slot_at e (slot_of c.shape set way) ≡ slot → ((l : ℕ) → l < slot_count c.shape → l ≢ slot_of c.shape set way → slot_at e l ≡ slot_at c l) → (s w : ℕ)
+    → slots e s w ≡ put_slot set way slot (slots c) s w
 changed_at c e set way slot shape same h l here others s w =
     elim (cases_lt s c.shape.sets) [
       | inr out ↦ changed_outside c e set way slot same h l s w (inl out)
@@ -96,5 +104,7 @@ changed_at c e set way slot shape same h l here others s w =
     ]
 
 -- contents that differ in one slot
-pub slots-changed : (c e : Contents) (set way : ℕ) (slot : Slot) → IsShape c.shape → e.shape ≡ c.shape → set < c.shape.sets → way < c.shape.ways → slot_at e (slot_of c.shape set way) ≡ slot → ((l : ℕ) → l < slot_count c.shape → l ≢ slot_of c.shape set way → slot_at e l ≡ slot_at c l) → slots e ≡ put_slot set way slot (slots c)
+pub slots-changed : (c e : Contents) (set way : ℕ) (slot : Slot) → IsShape c.shape → e.shape ≡ c.shape → set < c.shape.sets → way < c.shape.ways
+    → slot_at e (slot_of c.shape set way) ≡ slot → ((l : ℕ) → l < slot_count c.shape → l ≢ slot_of c.shape set way → slot_at e l ≡ slot_at c l)
+    → slots e ≡ put_slot set way slot (slots c)
 slots-changed c e set way slot shape same h l here others = fun_ext (λ s. fun_ext (λ w. changed_at c e set way slot shape same h l here others s w))

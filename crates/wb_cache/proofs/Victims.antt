@@ -4,22 +4,20 @@ use Rattle.std.specs.Prelude.{Option, Some, None, ◌==◌}
 use Rattle.bit_field.specs.Layouts.{number_of}
 use Rattle.bit_field.specs.Shapes.{IsShape}
 use Rattle.bit_field.specs.declared.shapes.Shape.{Shape}
+use Rattle.bit_field.proofs.Flags.{number_of_is_bit}
 use Rattle.wb_cache.specs.Contents.{Slot}
 use Rattle.wb_cache.specs.Lookup.{way_of, first_below, holds, set_of}
 use Rattle.wb_cache.specs.Replacement.{victim, first_invalid, replaced, way_or}
 use Rattle.wb_cache.proofs.Find.{first_below-some}
 
-number_of-below : (b : Bool) → number_of b < 2
-number_of-below true = omega arith
-number_of-below false = omega arith
-
 chosen : (b x y : Bool) → cond b (2 + number_of x) (number_of y) < 4
-chosen true x y = omega (arith, number_of-below x)
-chosen false x y = omega (arith, number_of-below y)
+chosen true x y = omega (arith, number_of_is_bit x)
+chosen false x y = omega (arith, number_of_is_bit y)
 
-replaced-by : (ways : ℕ) (a b d e : Bool) → (ways ≡ 1) ⊎ (ways ≡ 2) ⊎ (ways ≡ 4) → cond (ways == 1) 0 (cond (ways == 2) (number_of a) (cond b (2 + number_of d) (number_of e))) < ways
+replaced-by : (ways : ℕ) (a b d e : Bool) → (ways ≡ 1) ⊎ (ways ≡ 2) ⊎ (ways ≡ 4)
+    → cond (ways == 1) 0 (cond (ways == 2) (number_of a) (cond b (2 + number_of d) (number_of e))) < ways
 replaced-by ways a b d e (inl q) = rw q (omega arith)
-replaced-by ways a b d e (inr (inl q)) = rw q (number_of-below a)
+replaced-by ways a b d e (inr (inl q)) = rw q (number_of_is_bit a)
 replaced-by ways a b d e (inr (inr q)) = rw q (chosen b d e)
 
 pub replaced-below : (shape : Shape) (nodes : List Bool) (set : ℕ) → IsShape shape → replaced shape nodes set < shape.ways

@@ -22,7 +22,9 @@ pub byte_by : (o : ℕ) → (o < 16) ⊎ (16 ≤ o) → (x y : ℕ) → (o < 16 
 byte_by o (inl l) x y e f = grind (arith, nat_tests, e l)
 byte_by o (inr l) x y e f = grind (arith, nat_tests, f l)
 
-written_byte : (c : Contents) (set way word mask value o : ℕ) → IsSized c → set < c.shape.sets → way < c.shape.ways → word < 4 → cond (nat_lt o 16) (slice_index (put_word (16 * slot_of c.shape set way + 4 * word) mask value c.bytes) (16 * slot_of c.shape set way + o)) 0 ≡ cond (o / 4 == word && has_lane mask (o % 4)) (lane_byte value (o % 4)) ((slots c set way).bytes o)
+written_byte : (c : Contents) (set way word mask value o : ℕ) → IsSized c → set < c.shape.sets → way < c.shape.ways → word < 4
+    → cond (nat_lt o 16) (slice_index (put_word (16 * slot_of c.shape set way + 4 * word) mask value c.bytes) (16 * slot_of c.shape set way + o)) 0 ≡ cond
+    (o / 4 == word && has_lane mask (o % 4)) (lane_byte value (o % 4)) ((slots c set way).bytes o)
 written_byte c set way word mask value o sized h l w =
     let below = slot_below c.shape set way sized.shape h l in
     byte_by o (cases_lt o 16) _ _
@@ -30,7 +32,8 @@ written_byte c set way word mask value o sized h l w =
     ∙ ap (cond (o / 4 == word && has_lane mask (o % 4)) (lane_byte value (o % 4))) (sym (byte-inside c set way o h l m)))
     (λ m. grind (arith, nat_tests, byte-past c set way o m))
 
-written_here : (c : Contents) (set way word mask value : ℕ) → IsSized c → set < c.shape.sets → way < c.shape.ways → word < 4 → slot_at (put set way word mask value c) (slot_of c.shape set way) ≡ written_slot word mask value (slots c set way)
+written_here : (c : Contents) (set way word mask value : ℕ) → IsSized c → set < c.shape.sets → way < c.shape.ways → word < 4
+    → slot_at (put set way word mask value c) (slot_of c.shape set way) ≡ written_slot word mask value (slots c set way)
 unfolding put slot_at written_slot
 written_here c set way word mask value sized h l w =
     let below : slot_of c.shape set way < length c.dirty = rw (sized.dirty) (slot_below c.shape set way sized.shape h l) in
@@ -40,7 +43,8 @@ written_here c set way word mask value sized h l w =
     (sym (tag-inside c set way h l))
     (λ o. written_byte c set way word mask value o sized h l w)
 
-written_other : (c : Contents) (set way word mask value m : ℕ) → m ≢ slot_of c.shape set way → word < 4 → slot_at (put set way word mask value c) m ≡ slot_at c m
+written_other : (c : Contents) (set way word mask value m : ℕ) → m ≢ slot_of c.shape set way → word < 4
+    → slot_at (put set way word mask value c) m ≡ slot_at c m
 unfolding put slot_at
 written_other c set way word mask value m ne w =
     same_slot _ _
@@ -51,7 +55,8 @@ written_other c set way word mask value m ne w =
     (λ l. put_word-other (slot_of c.shape set way) m word mask value o c.bytes ne w l ∙ grind (arith, nat_tests))
     (λ l. grind (arith, nat_tests)))
 
-pub slots-put : (c : Contents) (set way word mask value : ℕ) → IsSized c → set < c.shape.sets → way < c.shape.ways → word < 4 → slots (put set way word mask value c) ≡ put_slot set way (written_slot word mask value (slots c set way)) (slots c)
+pub slots-put : (c : Contents) (set way word mask value : ℕ) → IsSized c → set < c.shape.sets → way < c.shape.ways → word < 4
+    → slots (put set way word mask value c) ≡ put_slot set way (written_slot word mask value (slots c set way)) (slots c)
 unfolding put
 slots-put c set way word mask value sized h l w =
     slots-changed c (put set way word mask value c) set way (written_slot word mask value (slots c set way)) sized.shape refl h l

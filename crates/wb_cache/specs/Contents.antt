@@ -31,10 +31,14 @@ pub record IsSized (c : Contents) : Type 0 where
   pub dirty : length c.dirty ≡ slot_count c.shape
   pub nodes : length c.nodes ≡ c.shape.sets * (c.shape.ways - 1)
 
+-- each of these numbers is that of a byte
+abbrev pub AreBytes : List ℕ → Type 0
+AreBytes xs = All (λ b. b < 2 ^ 8) xs
+
 -- besides, each byte and each tag is below its width
 pub record IsContents (c : Contents) : Type 0 where
   pub sized : IsSized c
-  pub bytes : All (λ b. b < 2 ^ 8) c.bytes
+  pub bytes : AreBytes c.bytes
   pub widths : All (λ t. t < 2 ^ tag_bits c.shape) c.tags
 
 -- One line slot. Byte o of the line it holds is bytes o, and bytes from 16 on are 0.

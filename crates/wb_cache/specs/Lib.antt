@@ -1,6 +1,7 @@
 pub mod Access
 pub mod Bits
 pub mod Changes
+pub mod Bytewise
 pub mod Contents
 pub mod Lookup
 pub mod Refill

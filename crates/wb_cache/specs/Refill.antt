@@ -34,7 +34,9 @@ written_back image set way c memory =
 unfoldable pub filled : LoadedImage → ℕ → ℕ → List ℕ → Contents → Contents
 filled image line way memory c =
     touched (set_of c.shape line) way (record c {
-      bytes = replace_range c.bytes (16 * slot_of c.shape (set_of c.shape line) way) (16 * slot_of c.shape (set_of c.shape line) way + 16) (line_bytes image line memory);
+      bytes =
+          replace_range c.bytes (16 * slot_of c.shape (set_of c.shape line) way) (16 * slot_of c.shape (set_of c.shape line) way + 16)
+          (line_bytes image line memory);
       tags = slice_set c.tags (slot_of c.shape (set_of c.shape line) way) (tag_of c.shape line);
       valid = slice_set c.valid (slot_of c.shape (set_of c.shape line) way) true;
       dirty = slice_set c.dirty (slot_of c.shape (set_of c.shape line) way) false;

@@ -219,13 +219,13 @@ impl LineTags {
     }
 }
 
-/// A bit of each line slot: whether it is valid, or whether it is dirty.
+/// A row of bits: of each line slot, whether it is valid or whether it is dirty; or the replacement bits of all sets.
 #[derive(Drop)]
-pub struct LineFlags {
+pub struct Flags {
     flags: Vec<bool>,
 }
 
-impl Model for LineFlags {
+impl Model for Flags {
     ghost use Rattle.std.specs.Prelude.{Bool, ◌≤◌, List, length};
 
     ghost Value = { List Bool };
@@ -235,7 +235,7 @@ impl Model for LineFlags {
     ghost invariant = { λ x. length x.flags.items ≤ 512 };
 }
 
-impl Struck for LineFlags {
+impl Struck for Flags {
     ghost use Rattle.std.specs.Prelude.{length};
     ghost use Rattle.bit_field.specs.Arrays.{bit_of_flags, flip_flag};
 
@@ -265,30 +265,30 @@ impl Struck for LineFlags {
     fn laws(&self) {}
 }
 
-impl LineFlags {
+impl Flags {
     /// `len` bits, at most 512, none of them set.
-    pub(crate) fn cleared(alloc: Global, len: u32) -> Result<LineFlags, OutOfMemory>
+    pub(crate) fn cleared(alloc: Global, len: u32) -> Result<Flags, OutOfMemory>
         requires { len ≤ 512 }
         ensures { IfOk result (λ x. x ≡ replicate len false) }
     {
-        Ok(LineFlags {
+        Ok(Flags {
             flags: vec![in alloc; false; len as usize]?,
         })
     }
 
-    /// The bit of a line slot.
-    pub(crate) fn is_set(&self, slot: u32) -> bool
-        requires { slot < length self.now }
-        ensures { result ≡ slice_index_or self.now slot false }
+    /// The bit at a place.
+    pub(crate) fn is_set(&self, at: u32) -> bool
+        requires { at < length self.now }
+        ensures { result ≡ slice_index_or self.now at false }
     {
-        self.flags[slot as usize]
+        self.flags[at as usize]
     }
 
-    /// Gives a line slot its bit.
-    pub(crate) fn put(&mut self, slot: u32, flag: bool)
-        requires { slot < length self.old }
-        ensures { self.new ≡ slice_set self.old slot flag }
+    /// Sets the bit at a place.
+    pub(crate) fn put(&mut self, at: u32, flag: bool)
+        requires { at < length self.old }
+        ensures { self.new ≡ slice_set self.old at flag }
     {
-        self.flags[slot as usize] = flag;
+        self.flags[at as usize] = flag;
     }
 }

@@ -8,10 +8,11 @@ ghost use Rattle.wb_cache.specs.Lookup as lookups;
 ghost use Rattle.wb_cache.specs.Lookup.{way_of};
 ghost use Rattle.wb_cache.specs.Replacement as replacement;
 ghost use Rattle.wb_cache.specs.Access as access;
+ghost use Rattle.wb_cache.specs.Bytewise.{RefillsLine, WritesLanes};
 ghost use Rattle.wb_cache.specs.Refill as refills;
 
-use crate::arrays::{LineData, LineFlags, LineTags};
-use crate::nodes::ReplacementNodes;
+use crate::arrays::{Flags, LineData, LineTags};
+use crate::nodes::{replaced, use_way};
 use avf_base::OutOfMemory;
 use bit_field::{Place, Shape, Struck, Structure, plain_shape};
 use elf_load::Image;
@@ -25,9 +26,9 @@ pub struct Cache {
     shape: Shape,
     data: LineData,
     tags: LineTags,
-    valid: LineFlags,
-    dirty: LineFlags,
-    nodes: ReplacementNodes,
+    valid: Flags,
+    dirty: Flags,
+    nodes: Flags,
 }
 
 impl Model for Cache {
@@ -61,12 +62,9 @@ impl Cache {
             shape: *shape,
             data: LineData::zeroed(alloc, 16 * slots)?,
             tags: LineTags::zeroed(alloc, shape)?,
-            valid: LineFlags::cleared(alloc, slots)?,
-            dirty: LineFlags::cleared(alloc, slots)?,
-            nodes: ReplacementNodes::cleared(
-                alloc,
-                u32::from(shape.sets) * (u32::from(shape.ways) - 1),
-            )?,
+            valid: Flags::cleared(alloc, slots)?,
+            dirty: Flags::cleared(alloc, slots)?,
+            nodes: Flags::cleared(alloc, u32::from(shape.sets) * (u32::from(shape.ways) - 1))?,
         })
     }
 
@@ -112,7 +110,7 @@ impl Cache {
     {
         match self.first_invalid(set) {
             Some(way) => way,
-            None => self.nodes.replaced(&self.shape, set),
+            None => replaced(&self.nodes, &self.shape, set),
         }
     }
 
@@ -154,7 +152,9 @@ impl Cache {
         requires mask { mask < 16 }
         ensures way { result ≡ way_of self.old.shape (slots self.old) line }
         ensures after { self.new ≡ access.written line word mask value self.old }
+        ensures bytes { WritesLanes line word mask value self.old self.new }
     {
+        self.is_cache();
         let way = self.lookup(line)?;
         self.put(self.set_of(line), way, word, mask, value);
         Some(way)
@@ -169,7 +169,10 @@ impl Cache {
         requires memory { length memory.old ≡ length image.now.ram }
         ensures memory { memory.new ≡ refills.memory_refilled image.now line self.old memory.old }
         ensures after { self.new ≡ refills.refilled image.now line memory.old self.old }
+        ensures bytes { RefillsLine image.now line self.old self.new memory.old memory.new }
     {
+        self.is_cache();
+        image.is_image();
         let set = self.set_of(line);
         let way = self.victim(set);
         self.write_back(set, way, image, memory);
@@ -304,7 +307,7 @@ impl Cache {
         let slot = self.slot(set, way);
         self.data.put_word(16 * slot + 4 * word, mask, value);
         self.dirty.put(slot, true);
-        self.nodes.use_way(&self.shape, set, way);
+        use_way(&mut self.nodes, &self.shape, set, way);
     }
 
     #[tactic(auto, using(crate::proofs::Lengths::lengths))]
@@ -312,7 +315,7 @@ impl Cache {
         requires { set < self.old.shape.sets }
         ensures { self.new ≡ access.touched set way self.old }
     {
-        self.nodes.use_way(&self.shape, set, way);
+        use_way(&mut self.nodes, &self.shape, set, way);
     }
 
     #[tactic(auto, using(crate::proofs::Sizes::line_below, crate::proofs::Slots::insides), unfolding(crate::specs::Refill::written_back))]

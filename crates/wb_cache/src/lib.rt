@@ -1,6 +1,7 @@
 // A write-back cache with write-allocation: five arrays over line slots, a look-up, reads and writes of words, and refills.
 //
-// - arrays, nodes: the five arrays, whose bits a strike can flip;
+// - arrays: the five arrays, whose bits a strike can flip;
+// - nodes: which line of a set makes place for another;
 // - cache: the cache and what is asked of it;
 // - event: what a cycle does to the cache, for the log of a run.
 //
@@ -13,10 +14,9 @@ mod cache;
 mod event;
 mod nodes;
 
-pub use arrays::{LineData, LineFlags, LineTags};
+pub use arrays::{Flags, LineData, LineTags};
 pub use cache::Cache;
 pub use event::{CacheEvent, EventKind};
-pub use nodes::ReplacementNodes;
 
 #[cfg(test)]
 mod tests;

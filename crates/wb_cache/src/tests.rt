@@ -7,6 +7,7 @@ ghost use Rattle.wb_cache.specs.Bits.{IsCache};
 
 use super::*;
 use bit_field::{Place, Shape, Structure, bits_in};
+use elf_fixture::flat;
 use elf_load::{Image, load};
 use std::alloc::Global;
 use std::process::Abort;
@@ -30,38 +31,9 @@ const LARGE: Shape = Shape {
     ways: 4,
 };
 
-// The words of a file with one executable word, 0x13, at 0x10000.
-const FILE: [u32; 22] = [
-    0x464C_457F,
-    0x0001_0101,
-    0,
-    0,
-    0x00F3_0002,
-    1,
-    0x10000,
-    52,
-    0,
-    0,
-    0x0020_0034,
-    1,
-    0,
-    1,
-    84,
-    0x10000,
-    0x10000,
-    4,
-    4,
-    5,
-    4,
-    0x13,
-];
-
+// The image of one executable word, 0x13, at 0x10000.
 fn image(alloc: Global) -> Result<Image, Fail> {
-    let mut file = Vec::new(alloc);
-    for word in FILE {
-        file.extend_from_slice(&word.to_le_bytes())?;
-    }
-    Ok(load(alloc, &file, 1_048_576)?)
+    Ok(load(alloc, &flat(alloc, &[0x13])?, 0x10_0000)?)
 }
 
 // Reads word 0 of a line, which is filled first where it misses, and tells the way.

@@ -1,73 +1,38 @@
--- A cycle keeps register numbers and counts within their widths, and no more than four stores pending.
-use Rattle.std.proofs.Common.{◌≡◌, ℕ, ◌<◌, ◌≤◌, Bool, true, false, List, ◌++◌, length, arith, length-append}
-use Rattle.std.specs.Prelude.{Option, Some, None, pred, nat_lt, if◌then◌else◌}
+-- A cycle keeps the widths of what EX/MEM, MEM/WB, the register file, the port and the store buffer hold.
+use Rattle.std.proofs.Common.{[], ◌∷◌, ◌-◌, ◌/◌, ◌%◌, replicate, lit<, refl, inl, inr, ◌≡◌, ℕ, ◌<◌, ◌≤◌, Bool, true, false, List, ◌++◌, length, arith}
+use Rattle.std.proofs.Common.{length-append}
+use Rattle.std.specs.Prelude.{◌≢◌, ◌⊎◌, All, Option, not, ◌&&◌, nat_lt, if◌then◌else◌}
 use Rattle.std.proofs.lemmas.Bool.Decides.{nat_tests}
 use Rattle.std.proofs.Math.ListN.{length-set}
-use Rattle.elf_load.specs.Image.{LoadedImage, executable, word_in_ram}
+use Rattle.std.proofs.lemmas.List.Elements.{All-append, All-filter, All-nil, All-push, All-replicate, All-tail}
+use Rattle.elf_load.specs.Image.{LoadedImage, IsImage, executable, word_in_ram}
+use Rattle.elf_load.proofs.InRam.{word_in_ram-below}
 use Rattle.rv_table.specs.Actions.{action}
 use Rattle.rv_table.specs.Effects.{written_register}
-use Rattle.rv_table.specs.Words.{decode}
-use Rattle.rv_table.specs.declared.op.TheConstants.{FETCH_FAULT_CODE}
 use Rattle.rv_table.specs.declared.action.Action.{Action}
-use Rattle.rv_table.proofs.WordTable.{decode-rd}
+use Rattle.rv_table.specs.Accesses.{lane_mask, store_size}
+use Rattle.rv_table.specs.declared.action.Action.TheVariants.{Nothing, Writes, Loads, Stores, Puts, Exits, Traps}
+use Rattle.rv_table.specs.declared.operation.StoreKind.{StoreKind}
+use Rattle.rv_table.specs.declared.operation.StoreKind.TheVariants.{Sb, Sh, Sw}
+use Rattle.rv_table.proofs.Lanes.{byte_mask, byte_mask_below, high_half_mask, low_half_mask, word_mask}
 use Rattle.pipe_latch.specs.Execution.{executed}
-use Rattle.pipe_latch.specs.Latches.{DecodedLatch, ExecutedLatch, ResultLatch, no_result, op_of_latch}
-use Rattle.pipe_latch.specs.LatchedActions.{action_of, latch_of}
-use Rattle.pipe_latch.proofs.Actions.{action_register}
+use Rattle.pipe_latch.specs.Latches.{DecodedLatch, ExecutedLatch, ResultLatch, no_executed, no_result, op_of_latch}
+use Rattle.pipe_latch.specs.LatchedActions.{action_of, latch_of, trap_number}
+use Rattle.pipe_latch.proofs.Actions.{action_register, action_trap}
 use Rattle.pipe_latch.proofs.Latches.{written-latch}
-use Rattle.inst_buf.specs.Entry.{Entry as Fetched}
-use Rattle.store_buf.specs.Entry.{Entry}
+use Rattle.store_buf.specs.Entry.{Entry, no_entry}
+use Rattle.store_buf.specs.Pending.{is_pending, packed, pending, younger}
 use Rattle.wb_cache.specs.Contents.{Contents}
 use Rattle.cyc_machine.specs.declared.fate.Fate.{Fate}
 use Rattle.cyc_machine.specs.declared.fate.Fate.TheVariants.{Absent, Dropped, Stays, Goes}
 use Rattle.cyc_machine.specs.declared.memory_stage.Served.{Served}
 use Rattle.cyc_machine.specs.declared.port.Move.{Move}
-use Rattle.cyc_machine.specs.Memory.{appended, kept_stores, move_of, port_after, result_after, stores_after}
-use Rattle.cyc_machine.specs.Pipeline.{counted, decoded, decoded_after, executed_after, op_of_entry, taken, written_registers}
-use Rattle.rv_table.proofs.RowLookups.{delay_of-below}
+use Rattle.cyc_machine.specs.declared.port.Move.TheVariants.{Rests, Reads, Drains, Misses, Waits, Leaves, Fills}
+use Rattle.cyc_machine.specs.Memory.{appended, entry_of, kept_stores, move_of, port_after, result_after, stores_after, without_stray}
+use Rattle.cyc_machine.specs.Pipeline.{counted, executed_after, written_registers}
 use Rattle.cyc_machine.specs.PortState.{PortState}
+use Rattle.cyc_machine.specs.Sizes.{IsExecutedSteady, IsPendingSteady}
 use Rattle.cyc_machine.proofs.Buffers.{length-kept}
-
--- ---- ID/EX
-
-decoded-rd : (e : Fetched) (w : ResultLatch) (registers : List ℕ) → (decoded e w registers).rd < 32
-unfolding decoded
-decoded-rd e w registers = go e.fault
-  where
-    go : (b : Bool) → (if b then record (decode e.word) { code = FETCH_FAULT_CODE } else decode e.word).rd < 32
-    go true = decode-rd e.word
-    go false = decode-rd e.word
-
-decoded-count : (e : Fetched) (w : ResultLatch) (registers : List ℕ) → (decoded e w registers).count < 32
-unfolding decoded
-decoded-count e w registers = delay_of-below (op_of_entry e).code
-
-taken-rd : (o : Option Fetched) (w : ResultLatch) (registers : List ℕ) → (taken o w registers).rd < 32
-taken-rd (Some e) w registers = decoded-rd e w registers
-taken-rd None w registers = omega arith
-
-taken-count : (o : Option Fetched) (w : ResultLatch) (registers : List ℕ) → (taken o w registers).count < 32
-taken-count (Some e) w registers = decoded-count e w registers
-taken-count None w registers = omega arith
-
-pred-below : (n : ℕ) → n < 32 → pred n < 32
-pred-below n h = grind (arith, nat_tests)
-
-pub decoded_after-rd : (f : Fate) (d : DecodedLatch) (waiting : List Fetched) (w : ResultLatch) (registers : List ℕ) → d.rd < 32
-    → (decoded_after f d waiting w registers).rd < 32
-unfolding decoded_after
-decoded_after-rd Absent d waiting w registers h = taken-rd _ w registers
-decoded_after-rd Dropped d waiting w registers h = omega arith
-decoded_after-rd Stays d waiting w registers h = h
-decoded_after-rd (Goes a b) d waiting w registers h = taken-rd _ w registers
-
-pub decoded_after-count : (f : Fate) (d : DecodedLatch) (waiting : List Fetched) (w : ResultLatch) (registers : List ℕ) → d.count < 32
-    → (decoded_after f d waiting w registers).count < 32
-unfolding decoded_after
-decoded_after-count Absent d waiting w registers h = taken-count _ w registers
-decoded_after-count Dropped d waiting w registers h = omega arith
-decoded_after-count Stays d waiting w registers h = pred-below d.count h
-decoded_after-count (Goes a b) d waiting w registers h = taken-count _ w registers
 
 -- ---- EX/MEM and MEM/WB
 
@@ -75,25 +40,39 @@ latch_of-register : (a : Action) → (latch_of a).rd ≡ written_register a
 unfolding latch_of
 latch_of-register a = grind arith
 
-executed-rd : (image : LoadedImage) (d : DecodedLatch) (a b : ℕ) → d.rd < 32 → (executed image d a b).rd < 32
-unfolding executed
-executed-rd image d a b h =
-    omega (
-      arith,
-      latch_of-register (action (word_in_ram image) (executable image) (op_of_latch d) d.pc a b),
-      action_register (word_in_ram image) (executable image) (op_of_latch d) d.pc a b,
-    )
+cause-of : (a : Action) → (latch_of a).cause ≡ trap_number a
+unfolding latch_of
+cause-of a = grind arith
 
-pub executed_after-rd : (image : LoadedImage) (f : Fate) (goes : Bool) (d : DecodedLatch) (clock issued : ℕ) (m : ExecutedLatch) → d.rd < 32 → m.rd < 32
-    → (executed_after image f goes d clock issued m).rd < 32
+kind-of : (a : Action) → (latch_of a).kind < 32
+unfolding latch_of
+kind-of a = grind arith
+
+executed-steady : (image : LoadedImage) (d : DecodedLatch) (a b : ℕ) → d.rd < 32 → IsExecutedSteady (executed image d a b)
+unfolding executed
+executed-steady image d a b h =
+    let done : Action = action (word_in_ram image) (executable image) (op_of_latch d) d.pc a b in
+    let register = latch_of-register done in
+    let own = action_register (word_in_ram image) (executable image) (op_of_latch d) d.pc a b in
+    let cause = cause-of done in
+    let number = action_trap (word_in_ram image) (executable image) (op_of_latch d) d.pc a b in
+    record { kind = kind-of done; rd = omega (arith, register, own, h); cause = omega (arith, cause, number) }
+
+none-steady : IsExecutedSteady no_executed
+none-steady = record { kind = lit< tt; rd = lit< tt; cause = lit< tt }
+
+kept-steady : (goes : Bool) (m : ExecutedLatch) → IsExecutedSteady m → IsExecutedSteady (if goes then no_executed else m)
+kept-steady true m is = none-steady
+kept-steady false m is = is
+
+pub executed_after-steady : (image : LoadedImage) (f : Fate) (goes : Bool) (d : DecodedLatch) (clock issued : ℕ) (m : ExecutedLatch) → d.rd < 32
+    → IsExecutedSteady m
+    → IsExecutedSteady (executed_after image f goes d clock issued m)
 unfolding executed_after
-executed_after-rd image (Goes a b) goes d clock issued m h l = executed-rd image d a (counted d clock issued b) h
-executed_after-rd image Absent true d clock issued m h l = omega arith
-executed_after-rd image Absent false d clock issued m h l = l
-executed_after-rd image Dropped true d clock issued m h l = omega arith
-executed_after-rd image Dropped false d clock issued m h l = l
-executed_after-rd image Stays true d clock issued m h l = omega arith
-executed_after-rd image Stays false d clock issued m h l = l
+executed_after-steady image (Goes a b) goes d clock issued m h is = executed-steady image d a (counted d clock issued b) h
+executed_after-steady image Absent goes d clock issued m h is = kept-steady goes m is
+executed_after-steady image Dropped goes d clock issued m h is = kept-steady goes m is
+executed_after-steady image Stays goes d clock issued m h is = kept-steady goes m is
 
 pub result_after-rd : (m : ExecutedLatch) (v : Served) → m.rd < 32 → (result_after (action_of m) v).rd < 32
 unfolding result_after
@@ -139,3 +118,68 @@ stores_after-length image m v stores h = go (nat_lt (length stores) 4) (grind (a
         let k = kept in let r : length stores < 4 = room (grind arith)
         in omega (arith, length-append (kept_stores image v stores) (appended image m true), appended-length image m true)
     go false room = let k = kept in omega (arith, length-append (kept_stores image v stores) (appended image m false), appended-full image m)
+
+abbrev AreSteady : List Entry → Type 0
+AreSteady es = All IsPendingSteady es
+
+younger-steady : (es : List Entry) → AreSteady es → AreSteady (younger es)
+younger-steady [] is = is
+younger-steady (e ∷ es) is = All-tail IsPendingSteady e es is
+
+stray-steady : (image : LoadedImage) (es : List Entry) → AreSteady es → AreSteady (without_stray image es)
+stray-steady image [] is = is
+stray-steady image (e ∷ es) is = go (word_in_ram image e.addr)
+  where
+    go : (b : Bool) → AreSteady (if (not b) then es else (e ∷ es))
+    go true = is
+    go false = All-tail IsPendingSteady e es is
+
+kept_stores-steady : (image : LoadedImage) (v : Move) (es : List Entry) → AreSteady es → AreSteady (kept_stores image v es)
+kept_stores-steady image (Drains e way) es is = younger-steady es is
+kept_stores-steady image Rests es is = stray-steady image es is
+kept_stores-steady image (Reads word way) es is = stray-steady image es is
+kept_stores-steady image (Misses line way count owner) es is = stray-steady image es is
+kept_stores-steady image Waits es is = stray-steady image es is
+kept_stores-steady image Leaves es is = stray-steady image es is
+kept_stores-steady image (Fills line way) es is = stray-steady image es is
+
+halves : (x : ℕ) → (x / 2 % 2 ≡ 0) ⊎ (x / 2 % 2 ≢ 0)
+halves x = grind arith
+
+same-below : (m n : ℕ) → m ≡ n → n < 16 → m < 16
+same-below m n e h = omega (arith, e, h)
+
+mask-below : (kind : StoreKind) (x : ℕ) → lane_mask (store_size kind) x < 16
+mask-below Sb x = let k : x % 4 < 4 = omega arith in grind (arith, byte_mask_below x, byte_mask x)
+mask-below Sh x = elim (halves x) as (λ _. lane_mask 2 x < 16) [
+  | inl low ↦ same-below (lane_mask 2 x) 3 (low_half_mask x low) (lit< tt)
+  | inr high ↦ same-below (lane_mask 2 x) 12 (high_half_mask x high) (lit< tt)
+]
+mask-below Sw x = omega (arith, word_mask x)
+
+appended-steady : (image : LoadedImage) (m : Action) (room : Bool) → IsImage image → AreSteady (appended image m room)
+unfolding appended
+appended-steady image (Stores kind x y) room is = go (room && word_in_ram image (x / 4)) refl
+  where
+    go : (b : Bool) → (room && word_in_ram image (x / 4)) ≡ b → AreSteady (if b then entry_of kind x y ∷ [] else [])
+    go true h =
+        let inside : word_in_ram image (x / 4) ≡ true = grind (arith, nat_tests) in
+        All-push IsPendingSteady [] (entry_of kind x y) (All-nil IsPendingSteady) (mask-below kind x, word_in_ram-below image (x / 4) is inside)
+    go false h = All-nil IsPendingSteady
+appended-steady image Nothing room is = All-nil IsPendingSteady
+appended-steady image (Writes rd value) room is = All-nil IsPendingSteady
+appended-steady image (Loads kind rd x) room is = All-nil IsPendingSteady
+appended-steady image (Puts value) room is = All-nil IsPendingSteady
+appended-steady image (Exits value) room is = All-nil IsPendingSteady
+appended-steady image (Traps cause) room is = All-nil IsPendingSteady
+
+pub stores_after-steady : (image : LoadedImage) (m : Action) (v : Move) (slots : List Entry) → IsImage image → AreSteady slots
+    → AreSteady (packed (stores_after image m v (pending slots)))
+unfolding stores_after
+stores_after-steady image m v slots is steady =
+    let kept = kept_stores-steady image v (pending slots) (All-filter is_pending IsPendingSteady slots steady) in
+    let more = appended-steady image m (nat_lt (length (pending slots)) 4) is in
+    All-append IsPendingSteady (kept_stores image v (pending slots) ++ appended image m (nat_lt (length (pending slots)) 4))
+    (replicate (4 - length (stores_after image m v (pending slots))) no_entry)
+    (All-append IsPendingSteady (kept_stores image v (pending slots)) (appended image m (nat_lt (length (pending slots)) 4)) kept more)
+    (All-replicate IsPendingSteady (4 - length (stores_after image m v (pending slots))) no_entry (lit< tt, lit< tt))

@@ -13,14 +13,10 @@ use Rattle.cyc_machine.specs.Pipeline.{register}
 use Rattle.cyc_machine.specs.State.{State}
 use Rattle.flush_view.specs.Flush.{completed_count, completed_path, flush, latched, path}
 use Rattle.cyc_machine.specs.InFlight.{Item, completed_item, is_reached}
-use Rattle.flush_view.specs.FlushParts.{FlushPartsLaw, TakesClocks, behind, no_log}
+use Rattle.flush_view.specs.FlushInputs.{TakesClocks, after_log, behind, no_log}
 use Rattle.flush_view.specs.Views.{view}
 
 -- ---- the log
-
--- a state with a log before its own
-abbrev pub after_log : Log → Arch → Arch
-after_log log at = record at { log = behind log at.log }
 
 with_byte-behind : (xs ys : List ℕ) (o : Option ℕ) → with_byte (xs ++ ys) o ≡ xs ++ with_byte ys o
 with_byte-behind xs ys (Some byte) = append_assoc xs ys (byte ∷ [])
@@ -126,9 +122,6 @@ path-takes image (item ∷ items) at = go (is_reached item at) (path-takes image
     go true t = one _ _ (is_clocked item.op) t
     go false t = record { taken = 0; most = omega arith; is = refl }
 
-takes-clocks : (s : State) (clocks : List ℕ) (log : Log) → TakesClocks s clocks log
+pub takes-clocks : (s : State) (clocks : List ℕ) (log : Log) → TakesClocks s clocks log
 unfolding flush
 takes-clocks s clocks log = let t = path-takes s.image (path s) (latched s clocks log) in record { taken = t.taken; most = t.most; left = t.is }
-
-pub flush-parts : (s : State) (clocks : List ℕ) (log : Log) → FlushPartsLaw s clocks log
-flush-parts s clocks log = record { logs = flush-after_log s clocks log; takes = takes-clocks s clocks log }

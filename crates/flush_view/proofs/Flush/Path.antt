@@ -3,7 +3,7 @@ use Rattle.std.proofs.Common.{◌≡◌, ℕ, ◌+◌, Bool, true, false, List, 
 use Rattle.std.specs.Prelude.{Option, Some, None, ◌==◌, ◌&&◌, is_none, nat_lt, if◌then◌else◌}
 use Rattle.std.proofs.lemmas.Bool.Decides.{nat_tests}
 use Rattle.elf_load.specs.Image.{LoadedImage, fetch}
-use Rattle.rv_table.specs.Words.{decode}
+use Rattle.rv_table.specs.Words.{decode, row_of_word}
 use Rattle.rv_table.specs.declared.op.Op.{Op}
 use Rattle.rv_isa.specs.Instruction.{State as Arch, completed, instruction, op_at, op_of_word, reg}
 use Rattle.cyc_machine.specs.Pipeline.{entry_of_word, fetched, op_of_entry}
@@ -48,7 +48,7 @@ path-push image (i ∷ items) item at = go (path-push image items item (complete
 
 -- the operation of a fetched entry is that of the word
 no_word : record (decode 0) { code = 1 } ≡ op_of_word None
-unfolding decode
+unfolding decode row_of_word
 no_word = refl
 
 op_by_word : (pc : ℕ) (o : Option ℕ) → op_of_entry (entry_of_word pc o) ≡ op_of_word o

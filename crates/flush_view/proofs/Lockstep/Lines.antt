@@ -1,9 +1,8 @@
 -- What a cycle reads of the cache: nothing of an invalid line slot.
-use Rattle.std.proofs.Common.{◌≡◌, ℕ, ◌/◌, ◌%◌, Bool, true, false, List, refl, sym, ap, arith, ◌∙◌}
+use Rattle.std.proofs.Common.{◌≡◌, ℕ, ◌/◌, ◌%◌, Bool, true, false, List, refl, sym, ap, ◌∙◌}
 use Rattle.std.specs.Prelude.{Option, Some, None, ◌==◌, ◌&&◌, not, if◌then◌else◌}
 use Rattle.std.specs.Option.{option_map}
 use Rattle.std.proofs.Math.Path.{fun_ext}
-use Rattle.std.proofs.lemmas.Bool.Decides.{nat_tests}
 use Rattle.bit_field.specs.declared.shapes.Shape.{Shape}
 use Rattle.rv_table.specs.declared.action.Action.{Action}
 use Rattle.store_buf.specs.Entry.{Entry}
@@ -19,7 +18,7 @@ use Rattle.cyc_machine.specs.declared.port.Move.TheVariants.{Rests, Reads, Drain
 use Rattle.cyc_machine.specs.Cycle.{event_by}
 use Rattle.cyc_machine.specs.Memory.{continues, drained_by, filled_by, is_dirty_victim, missed, move_of, owned_word, read_by, starts, word_read}
 use Rattle.flush_view.specs.Ignored.{SameLines, read_of_slot}
-use Rattle.flush_view.proofs.Memory.Ways.{Slots, way-same, way-some}
+use Rattle.wb_cache.proofs.Ways.{Slots, found-valid, way-same}
 
 -- what is read of the slots
 abbrev pub read_slots : Slots → Slots
@@ -52,18 +51,12 @@ dirty-read slot = go slot.valid refl
     go true is = rw is refl
     go false is = rw is refl
 
-holds-valid : (shape : Shape) (line : ℕ) (slot : Slot) → holds shape line slot ≡ true → slot.valid ≡ true
-holds-valid shape line slot h = grind (arith, nat_tests)
-
 -- ---- ways
 
 way-read : (shape : Shape) (cache : Slots) (line : ℕ) → way_of shape (read_slots cache) line ≡ way_of shape cache line
 way-read shape cache line = way-same shape (read_slots cache) cache line (λ w l. holds-read shape line (cache (set_of shape line) w))
 
--- a slot that was found is valid, and read whole
-pub found-valid : (shape : Shape) (cache : Slots) (line w : ℕ) → way_of shape cache line ≡ Some w → (cache (set_of shape line) w).valid ≡ true
-found-valid shape cache line w h = holds-valid shape line (cache (set_of shape line) w) (way-some shape cache line w h).1
-
+-- a slot that was found is read whole
 pub found-whole : (shape : Shape) (cache : Slots) (line w : ℕ) → way_of shape cache line ≡ Some w
     → read_of_slot (cache (set_of shape line) w) ≡ cache (set_of shape line) w
 found-whole shape cache line w h = full-read (cache (set_of shape line) w) (found-valid shape cache line w h)

@@ -30,7 +30,7 @@ use Rattle.flush_view.proofs.Lockstep.PortMoves.{event-same, masked_move, move-m
 use Rattle.flush_view.proofs.Lockstep.NextLatches.{decoded-empty, decoded-same, executed-empty, executed-same, npc-empty, registers-same, tables-empty}
 use Rattle.flush_view.proofs.Lockstep.Stores.{load_client-same, masked_entries, masked_entry, pending-same, served-same, store_client-same}
 use Rattle.cyc_machine.proofs.Tells.{Tells, tells}
-use Rattle.cyc_machine.proofs.Sizes.Lasting.{steady-next}
+use Rattle.cyc_machine.proofs.Sizes.Lasting.{steady-after, steady-next}
 use Rattle.cyc_machine.specs.Sizes.{IsSteady}
 
 module _ (s u : State) (same : DiffersInIgnored s u) where
@@ -237,12 +237,6 @@ lockstep-law s is =
     }
 
 -- ---- many cycles
-
--- to move: cyc_machine
-steady-after : (n : ℕ) (s : State) → IsSteady s → IsSteady (state_after n s)
-unfolding state_after
-steady-after zero s is = is
-steady-after (suc n) s is = steady-next (state_after n s) (steady-after n s is)
 
 module _ (s u : State) (is : IsSteady s) (other : IsSteady u) (same : DiffersInIgnored s u) where
   lockstep-after : (n : ℕ) → DiffersInIgnored (state_after n s) (state_after n u)

@@ -14,20 +14,20 @@ use Rattle.wb_cache.specs.Lookup.{set_of, way_of}
 use Rattle.wb_cache.specs.Refill.{filled as filled_contents, refilled, way_for}
 use Rattle.wb_cache.specs.Replacement.{used}
 use Rattle.wb_cache.proofs.Hits.{read-hit, written-hit}
-use Rattle.wb_cache.proofs.Ram.{in_ram-to}
+use Rattle.elf_load.proofs.InRam.{in_ram-within}
 use Rattle.cyc_machine.specs.declared.port.Move.{Move}
 use Rattle.cyc_machine.specs.declared.port.Move.TheVariants.{Rests, Reads, Drains, Misses, Waits, Leaves, Fills}
 use Rattle.cyc_machine.specs.Memory.{cache_after, memory_after}
 use Rattle.flush_view.specs.Ignored.{SameLines, masked_word, read_of_slot}
 use Rattle.flush_view.proofs.Memory.Drain.{drained, with_store}
 use Rattle.flush_view.proofs.Memory.Fill.{filled, written}
-use Rattle.flush_view.proofs.Lockstep.Lines.{found-valid, found-whole, full-read, read_slots, slots-same}
+use Rattle.flush_view.proofs.Lockstep.Lines.{found-whole, full-read, read_slots, slots-same}
 use Rattle.flush_view.proofs.Lockstep.PortMoves.{masked_move}
 use Rattle.flush_view.proofs.Lockstep.Stores.{masked-lane, masked_entry}
 use Rattle.flush_view.proofs.Memory.MovedSlots.{moved, moved_ram, ram-moved, slots-moved}
 use Rattle.cyc_machine.proofs.ShapeKept.{shape-moved}
 use Rattle.cyc_machine.proofs.Tells.{Tells}
-use Rattle.flush_view.proofs.Memory.Ways.{Slots}
+use Rattle.wb_cache.proofs.Ways.{Slots, found-valid}
 
 -- ---- slots
 
@@ -178,7 +178,7 @@ same_bytes image m n long as_long same = ext_get_or 0 m n (long ∙ sym as_long)
   where
     byte : (i : ℕ) → i < length m → get_or m i 0 ≡ get_or n i 0
     byte i below =
-        let inside : in_ram image (image.base + i) ≡ true = in_ram-to image (image.base + i) (omega arith) (omega (arith, long)) in
+        let inside : in_ram image (image.base + i) ≡ true = in_ram-within image (image.base + i) (omega arith) (omega (arith, long)) in
         let at : image.base + i - image.base ≡ i = omega arith in
         let e : ram_byte image m (image.base + i) ≡ ram_byte image n (image.base + i) = ap (λ (f : ℕ → ℕ). f (image.base + i)) same in
         rw (inside, at) at e

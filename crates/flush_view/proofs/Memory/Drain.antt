@@ -10,7 +10,7 @@ use Rattle.wb_cache.specs.Contents.{Slot}
 use Rattle.wb_cache.specs.Lookup.{holds, set_of, way_of}
 use Rattle.flush_view.specs.Coherence.{Coherent, IsClean}
 use Rattle.flush_view.specs.Views.{byte_in, cached, over}
-use Rattle.flush_view.proofs.Memory.Ways.{Here, Place, Slots, There, has, holds-one, place, way-same, way-some}
+use Rattle.wb_cache.proofs.Ways.{Here, Place, Slots, There, has, holds-one, place, way-same, way-some}
 
 -- the slot with the store in it
 abbrev pub with_store : Entry → Slot → Slot

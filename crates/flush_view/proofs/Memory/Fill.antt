@@ -11,7 +11,8 @@ use Rattle.wb_cache.specs.Contents.{Slot}
 use Rattle.wb_cache.specs.Lookup.{holds, set_of, tag_of, way_of}
 use Rattle.flush_view.specs.Coherence.{Coherent, IsClean, IsSingle}
 use Rattle.flush_view.specs.Views.{byte_in, cached}
-use Rattle.flush_view.proofs.Memory.Ways.{Here, Place, Slots, There, has, holds-one, place, way-none, way-nothing, way-only, way-same, way-some}
+use Rattle.wb_cache.proofs.Bytewise.{filled-self}
+use Rattle.wb_cache.proofs.Ways.{Here, Place, Slots, There, has, holds-one, place, way-none, way-nothing, way-only, way-same, way-some}
 
 -- main memory and the cache after a refill of a way
 abbrev pub written : LoadedImage → Shape → ℕ → ℕ → Slots → (ℕ → ℕ) → ℕ → ℕ
@@ -23,10 +24,6 @@ filled image shape line way cache ram = put_slot (set_of shape line) way (filled
 filled-tag : (shape : Shape) (ram : ℕ → ℕ) (line other : ℕ) → holds shape other (filled_slot shape ram line) ≡ (tag_of shape line == tag_of shape other)
 unfolding filled_slot
 filled-tag shape ram line other = refl
-
-filled-self : (shape : Shape) (ram : ℕ → ℕ) (line : ℕ) → holds shape line (filled_slot shape ram line) ≡ true
-unfolding filled_slot
-filled-self shape ram line = grind (arith, nat_tests)
 
 filled-byte : (shape : Shape) (ram : ℕ → ℕ) (p line : ℕ) → p / 16 ≡ line → (filled_slot shape ram line).bytes (p % 16) ≡ ram p
 unfolding filled_slot

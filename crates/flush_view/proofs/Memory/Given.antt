@@ -1,12 +1,9 @@
 -- What a done action gives its register, by the view.
-use Rattle.std.proofs.Common.{◌≡◌, ◌⊎◌, inl, inr, ◌≤◌, ℕ, ◌+◌, ◌*◌, ◌/◌, ◌%◌, ◌^◌, ◌<◌}
-use Rattle.std.proofs.Common.{Bool, true, false, cond, List, length, lit<, arith, refl, sym, ap, ◌∙◌, subst}
-use Rattle.std.specs.Prelude.{Option, Some, None, ◌&&◌, nat_lt, slice_index, if◌then◌else◌}
-use Rattle.std.specs.List.{All}
+use Rattle.std.proofs.Common.{◌≡◌, ℕ, ◌+◌, ◌*◌, ◌/◌, ◌%◌, ◌<◌}
+use Rattle.std.proofs.Common.{Bool, true, false, cond, List, arith, refl, sym, ap, ◌∙◌}
+use Rattle.std.specs.Prelude.{Option, Some, None, if◌then◌else◌}
 use Rattle.std.specs.Option.{option_map}
-use Rattle.std.proofs.Math.ListN.{get_or-eq_default}
-use Rattle.std.proofs.lemmas.Bool.{cases_lt, true≢false}
-use Rattle.std.proofs.lemmas.List.Elements.{All-get_or}
+use Rattle.std.proofs.lemmas.Bool.{true≢false}
 use Rattle.elf_load.specs.Image.{in_ram, word_in_ram, ram_byte}
 use Rattle.elf_load.proofs.InRam.{in_ram-word}
 use Rattle.rv_isa.specs.Instruction.{given}
@@ -21,8 +18,9 @@ use Rattle.store_buf.specs.Pending.{pending}
 use Rattle.store_buf.specs.declared.cover.Cover.{Cover}
 use Rattle.store_buf.specs.declared.cover.Cover.TheVariants.{Full, Part, None as Uncovered}
 use Rattle.wb_cache.specs.Access.{found, word_at, word_of}
-use Rattle.wb_cache.specs.Contents.{Contents, no_slot, slot_at, slot_of, slots}
+use Rattle.wb_cache.specs.Contents.{Contents, slots, AreBytes}
 use Rattle.wb_cache.specs.Lookup.{set_of, way_of}
+use Rattle.wb_cache.proofs.Bytes.{slot_byte-below}
 use Rattle.wb_cache.proofs.Lanes.{lane-word_at}
 use Rattle.cyc_machine.specs.declared.port.Move.{Move}
 use Rattle.cyc_machine.specs.declared.port.Move.TheVariants.{Rests, Reads, Drains, Misses, Waits, Leaves, Fills}
@@ -32,29 +30,8 @@ use Rattle.cyc_machine.specs.State.{State}
 use Rattle.flush_view.specs.Views.{byte_in, cached, overlaid, view}
 use Rattle.flush_view.proofs.Memory.Loads.{covered-byte, uncovered-byte}
 use Rattle.cyc_machine.proofs.Tells.{Tells, tells}
-use Rattle.flush_view.proofs.Memory.Overlay.{lane-byte}
-use Rattle.wb_cache.proofs.Kept.{AreBytes}
+use Rattle.cyc_machine.proofs.LoadedLanes.{lane-byte}
 use Rattle.cyc_machine.specs.Sizes.{IsSteady}
-
--- the bytes of the slots are below 256
-pub index_below : (xs : List ℕ) (i : ℕ) → All (λ b. b < 2 ^ 8) xs → slice_index xs i < 256
-index_below xs i all = go (cases_lt i (length xs))
-  where
-    go : (i < length xs) ⊎ (length xs ≤ i) → slice_index xs i < 256
-    go (inl l) = All-get_or (λ b. b < 2 ^ 8) xs i 0 l all
-    go (inr m) = subst (λ n. n < 256) (sym (get_or-eq_default xs 0 m)) (lit< tt)
-
-pub slot_below : (c : Contents) (set way o : ℕ) → AreBytes c.bytes → (slots c set way).bytes o < 256
-unfolding slots slot_at
-slot_below c set way o is = go (nat_lt set c.shape.sets && nat_lt way c.shape.ways) (nat_lt o 16)
-  where
-    inner : (b : Bool) → cond b (slice_index c.bytes (16 * slot_of c.shape set way + o)) 0 < 256
-    inner true = index_below c.bytes (16 * slot_of c.shape set way + o) is
-    inner false = lit< tt
-
-    go : (a b : Bool) → (cond a (slot_at c (slot_of c.shape set way)) no_slot).bytes o < 256
-    go true b = inner (nat_lt o 16)
-    go false b = lit< tt
 
 -- ---- the word that the port reads
 
@@ -76,7 +53,7 @@ read-byte c ram word way v p is hit e at =
     let there : 4 * (word % 4) + p % 4 ≡ p % 16 = omega arith in
     ap (λ n. byte_of n (p % 4)) (word_read-is c (word / 4) (word % 4) way v hit e)
     ∙ sym (lane-byte (word_at (slots c (set_of c.shape (word / 4)) way) (word % 4)) (p % 4) lane)
-    ∙ lane-word_at (slots c (set_of c.shape (word / 4)) way) (word % 4) (p % 4) (λ o. slot_below c (set_of c.shape (word / 4)) way o is) lane
+    ∙ lane-word_at (slots c (set_of c.shape (word / 4)) way) (word % 4) (p % 4) (λ o. slot_byte-below c (set_of c.shape (word / 4)) way o is) lane
     ∙ ap (slots c (set_of c.shape (word / 4)) way).bytes there
     ∙ ap (λ l. (slots c (set_of c.shape l) way).bytes (p % 16)) (sym line)
     ∙ sym (ap (λ (o : Option ℕ). byte_in o (slots c (set_of c.shape (p / 16))) p (ram p)) (ap (way_of c.shape (slots c)) line ∙ hit))

@@ -1,20 +1,20 @@
 -- A load that is done gives the view's bytes.
 use Rattle.std.proofs.Common.{◌≡◌, ℕ, zero, suc, ◌*◌, ◌/◌, ◌%◌, ◌^◌, ◌<◌, Bool, true, false, cond, List, [], ◌∷◌, lit<, arith, refl, sym, ap, ◌∙◌}
-use Rattle.std.specs.Prelude.{Option, Some, None, ◌==◌, ◌&&◌, ◌||◌, not, is_some, is_none, unwrap_or, if◌then◌else◌}
+use Rattle.std.specs.Prelude.{Option, Some, None, ◌==◌, ◌&&◌, ◌||◌, not, is_some, is_none, unwrap_or}
 use Rattle.std.specs.Option.{option_or}
 use Rattle.std.proofs.lemmas.Nat.{mod_below}
 use Rattle.std.proofs.lemmas.Bool.{true≢false}
 use Rattle.rv_table.specs.Accesses.{accesses, byte_of, lane_mask, load_size}
 use Rattle.rv_table.specs.declared.operation.LoadKind.{LoadKind}
 use Rattle.rv_table.proofs.Loads.{same_word}
-use Rattle.rv_table.proofs.Stores.{load_mask-bit}
 use Rattle.bit_field.specs.Lanes.{has_lane, lane_byte}
 use Rattle.store_buf.specs.Covers.{all_found, byte_found, each_lane, found, held, is_found, is_missing, none_found, word_found}
 use Rattle.store_buf.specs.Entry.{Entry}
 use Rattle.wb_cache.specs.Access.{word_at}
 use Rattle.wb_cache.proofs.Lanes.{lane-word_at}
 use Rattle.flush_view.specs.Views.{overlaid}
-use Rattle.flush_view.proofs.Memory.Overlay.{lane-byte, overlaid-found}
+use Rattle.cyc_machine.proofs.LoadedLanes.{lane-byte, named-lane}
+use Rattle.flush_view.proofs.Memory.Overlay.{overlaid-found}
 
 byte_under : (value lane : ℕ) → lane < 4 → lane_byte value lane < 256
 unfolding byte_of
@@ -43,10 +43,6 @@ found_below : (es : List Entry) (addr lane : ℕ) → unwrap_or (found es addr l
 unfolding found
 found_below [] addr lane = lit< tt
 found_below (e ∷ es) addr lane = or_below (found es addr lane) (held e addr lane) (found_below es addr lane) (held_below e addr lane)
-
--- a lane that is accessed is named by the mask
-named : (kind : LoadKind) (x p : ℕ) → accesses (load_size kind) x p ≡ true → has_lane (lane_mask (load_size kind) x) (p % 4) ≡ true
-named kind x p a = ap (λ n. n == 1) (load_mask-bit kind x p (same_word kind x p a) ∙ ap (λ b. if b then 1 else 0) a)
 
 of_four : (test : ℕ → Bool) (lane : ℕ) → lane < 4 → each_lane test ≡ true → test lane ≡ true
 of_four test zero h e = grind arith
@@ -94,8 +90,8 @@ covered-byte es kind x p b a full =
     let mask : ℕ = lane_mask (load_size kind) x in
     let here : is_found es (x / 4) mask (p % 4) ≡ true = of_four (is_found es (x / 4) mask) (p % 4) lane full in
     word-lane es (x / 4) mask (p % 4) lane
-    ∙ wanted-byte es (x / 4) mask (p % 4) (named kind x p a)
-    ∙ some_of (has_lane mask (p % 4)) (found es (x / 4) (p % 4)) 0 b (named kind x p a) here
+    ∙ wanted-byte es (x / 4) mask (p % 4) (named-lane kind x p a)
+    ∙ some_of (has_lane mask (p % 4)) (found es (x / 4) (p % 4)) 0 b (named-lane kind x p a) here
     ∙ ap (λ (w : ℕ). unwrap_or (found es w (p % 4)) b) (sym (same_word kind x p a))
     ∙ sym (overlaid-found es p b)
 
@@ -107,7 +103,7 @@ uncovered-byte es kind x p b a clear =
     let lane : p % 4 < 4 = omega arith in
     let mask : ℕ = lane_mask (load_size kind) x in
     let here : is_missing es (x / 4) mask (p % 4) ≡ true = of_four (is_missing es (x / 4) mask) (p % 4) lane clear in
-    let none : found es (x / 4) (p % 4) ≡ None = none_of (has_lane mask (p % 4)) (found es (x / 4) (p % 4)) (named kind x p a) here in
+    let none : found es (x / 4) (p % 4) ≡ None = none_of (has_lane mask (p % 4)) (found es (x / 4) (p % 4)) (named-lane kind x p a) here in
     overlaid-found es p b
     ∙ ap (λ (w : ℕ). unwrap_or (found es w (p % 4)) b) (same_word kind x p a)
     ∙ ap (λ (o : Option ℕ). unwrap_or o b) none

@@ -26,7 +26,7 @@ use Rattle.cyc_machine.proofs.Tells.{Tells, tells}
 use Rattle.flush_view.proofs.Memory.Given.{served-value}
 use Rattle.flush_view.proofs.Memory.Overlay.{one_word}
 use Rattle.cyc_machine.specs.Sizes.{IsSteady}
-use Rattle.flush_view.proofs.Memory.Ways.{Slots}
+use Rattle.wb_cache.proofs.Ways.{Slots}
 
 -- a store outside RAM is dropped
 dropped-outside : (image : LoadedImage) → IsImage image → (kind : StoreKind) (x y p : ℕ) (memory : ℕ → ℕ) → in_ram image p ≡ false → memory p ≡ 0

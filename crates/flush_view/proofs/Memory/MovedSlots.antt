@@ -11,7 +11,7 @@ use Rattle.cyc_machine.specs.Memory.{cache_after, memory_after}
 use Rattle.flush_view.proofs.Memory.Drain.{drained}
 use Rattle.flush_view.proofs.Memory.Fill.{filled, written}
 use Rattle.cyc_machine.proofs.Tells.{Tells}
-use Rattle.flush_view.proofs.Memory.Ways.{Slots}
+use Rattle.wb_cache.proofs.Ways.{Slots}
 
 -- what a move makes of slots and of main memory
 abbrev pub moved : LoadedImage → Contents → Move → (ℕ → ℕ) → Slots → Slots

@@ -14,6 +14,7 @@ use Rattle.bit_field.specs.Lanes.{has_lane, lane_byte}
 use Rattle.store_buf.specs.Covers.{found, held}
 use Rattle.store_buf.specs.Entry.{Entry}
 use Rattle.cyc_machine.specs.Memory.{entry_of, without_stray}
+use Rattle.cyc_machine.proofs.LoadedLanes.{lane-byte}
 use Rattle.flush_view.specs.Views.{over, overlaid}
 
 pub overlaid-push : (es : List Entry) (e : Entry) (p x : ℕ) → overlaid (es ++ e ∷ []) p x ≡ over e p (overlaid es p x)
@@ -60,11 +61,6 @@ overlaid-stray image (e ∷ es) p x is inside = go (word_in_ram image e.addr) re
     go : (b : Bool) → word_in_ram image e.addr ≡ b → overlaid (cond (not b) es (e ∷ es)) p x ≡ overlaid es p (over e p x)
     go true h = refl
     go false h = ap (overlaid es p) (sym (over-outside image e p x is inside h))
-
--- a lane's byte of a word is that byte of the number
-pub lane-byte : (value lane : ℕ) → lane < 4 → lane_byte value lane ≡ byte_of value lane
-unfolding byte_of
-lane-byte value lane h = grind (arith, nat_tests)
 
 one : (b : Bool) → (cond b 1 0 == 1) ≡ b
 one true = refl

@@ -1,17 +1,16 @@
 -- The bytes of the view are below 256.
 use Rattle.std.proofs.Common.{ℕ, ◌/◌, ◌%◌, ◌^◌, ◌<◌, Bool, true, false, cond, List, [], ◌∷◌, lit<}
-use Rattle.std.specs.Prelude.{Option, Some, None, ◌==◌, ◌&&◌, ◌-◌, slice_index, if◌then◌else◌}
-use Rattle.elf_load.specs.Image.{LoadedImage, in_ram, ram_byte}
+use Rattle.std.specs.Prelude.{Option, Some, None, ◌==◌, ◌&&◌, if◌then◌else◌}
+use Rattle.elf_load.specs.Image.{in_ram, ram_byte}
 use Rattle.bit_field.specs.Lanes.{has_lane, lane_byte}
 use Rattle.store_buf.specs.Entry.{Entry}
 use Rattle.store_buf.specs.Pending.{pending}
 use Rattle.wb_cache.specs.Contents.{slots}
 use Rattle.wb_cache.specs.Lookup.{set_of, way_of}
-use Rattle.wb_cache.proofs.Kept.{AreBytes}
 use Rattle.cyc_machine.specs.Sizes.{HoldsBytes}
 use Rattle.cyc_machine.specs.State.{State}
 use Rattle.flush_view.specs.Views.{byte_in, cached, over, overlaid, view}
-use Rattle.flush_view.proofs.Memory.Given.{index_below, slot_below}
+use Rattle.wb_cache.proofs.Bytes.{ram_byte-below, slot_byte-below}
 use Rattle.flush_view.proofs.Memory.Loads.{byte_below}
 
 over_below : (e : Entry) (p below : ℕ) → below < 2 ^ 8 → over e p below < 2 ^ 8
@@ -26,21 +25,13 @@ unfolding overlaid
 overlaid_below [] p below h = h
 overlaid_below (e ∷ es) p below h = overlaid_below es p (over e p below) (over_below e p below h)
 
-ram_below : (image : LoadedImage) (memory : List ℕ) (p : ℕ) → AreBytes memory → ram_byte image memory p < 2 ^ 8
-unfolding ram_byte
-ram_below image memory p is = go (in_ram image p)
-  where
-    go : (b : Bool) → cond b (slice_index memory (p - image.base)) 0 < 2 ^ 8
-    go true = index_below memory (p - image.base) is
-    go false = lit< tt
-
 pub view-below : (s : State) → HoldsBytes s → (p : ℕ) → view s p < 2 ^ 8
 unfolding view cached
 view-below s is p = go (in_ram s.image p)
   where
     found_below : (o : Option ℕ) → byte_in o (slots s.cache (set_of s.cache.shape (p / 16))) p (ram_byte s.image s.memory p) < 2 ^ 8
-    found_below (Some way) = slot_below s.cache (set_of s.cache.shape (p / 16)) way (p % 16) is.cache
-    found_below None = ram_below s.image s.memory p is.memory
+    found_below (Some way) = slot_byte-below s.cache (set_of s.cache.shape (p / 16)) way (p % 16) is.cache
+    found_below None = ram_byte-below s.image s.memory p is.memory
 
     go : (b : Bool) → (if b then overlaid (pending s.stores) p (cached s.cache.shape (ram_byte s.image s.memory) (slots s.cache) p) else 0) < 2 ^ 8
     go true = overlaid_below (pending s.stores) p _ (found_below (way_of s.cache.shape (slots s.cache) (p / 16)))

@@ -17,7 +17,7 @@ use Rattle.cyc_machine.specs.PortState.{PortState}
 use Rattle.flush_view.proofs.Memory.Fill.{arrived-way, filled}
 use Rattle.flush_view.proofs.Memory.MovedSlots.{slots-moved}
 use Rattle.cyc_machine.proofs.ShapeKept.{shape-moved}
-use Rattle.flush_view.proofs.Memory.Ways.{Slots}
+use Rattle.wb_cache.proofs.Ways.{Slots}
 
 -- the word of the client that is served first
 abbrev pub client : Option ℕ → Option Entry → Option ℕ

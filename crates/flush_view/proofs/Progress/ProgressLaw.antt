@@ -106,7 +106,7 @@ ready (suc c) n s h is m v p k =
     later (131 + c) n s (omega arith) (empty-end s m) (ready c (131 + c) (cycle s) (omega arith) (steady-next s is) next.0 next.1 next.2 next.3)
 
 present : (n : ℕ) (s : State) → 163 ≤ n → IsSteady s → s.m.valid ≡ false → s.d.valid ≡ true → (s.d.pc == s.npc) ≡ true → Leaves n s
-present n s h is m v p = ready s.d.count n s (omega (arith, is.d_count)) is m v p refl
+present n s h is m v p = ready s.d.count n s (omega (arith, is.d.count)) is m v p refl
 
 -- ---- and before that
 

@@ -19,7 +19,8 @@ use Rattle.cyc_machine.specs.declared.fate.Fate.TheVariants.{Absent, Dropped, St
 use Rattle.cyc_machine.specs.Cycle.{action_in_m, cycled, fate, served_m, done_in}
 use Rattle.cyc_machine.specs.Memory.{served}
 use Rattle.cyc_machine.specs.Pipeline.{counted, executed_after}
-use Rattle.cyc_machine.specs.Run.{clocks_after, clocks_below, cycle_if, goes, issues_after, issues_below, log_after, output_after, output_below, retired_after, retired_below, state_after, state_at, with_one}
+use Rattle.cyc_machine.specs.Run.{clocks_after, clocks_below, cycle_if, goes, issues_after, issues_below, log_after}
+use Rattle.cyc_machine.specs.Run.{output_after, output_below, retired_after, retired_below, state_after, state_at, with_one}
 use Rattle.cyc_machine.specs.State.{State, reset}
 use Rattle.rv_table.specs.Actions.{action, is_clocked}
 use Rattle.flush_view.specs.Flush.{clocks_now, fed}

@@ -9,7 +9,15 @@ use Rattle.wb_cache.specs.Lookup.{holds, set_of, way_of}
 use Rattle.flush_view.specs.Coherence.{Coherent}
 use Rattle.flush_view.specs.Struck.{Replaces}
 use Rattle.flush_view.specs.Views.{byte_in, cached}
-use Rattle.flush_view.proofs.Memory.Ways.{Here, Place, Slots, There, has, place, way-none, way-nothing, way-only, way-same, way-some}
+use Rattle.wb_cache.proofs.Ways.{Here, Place, Slots, There, has, place, way-none, way-nothing, way-only, way-same, way-some}
+
+-- what is coherent outside few lines is so outside more
+pub coherent-wider : (shape : Shape) (out more : ℕ → Bool) (ram : ℕ → ℕ) (cache : Slots) → ((line : ℕ) → more line ≡ false → out line ≡ false)
+    → Coherent shape out ram cache → Coherent shape more ram cache
+coherent-wider shape out more ram cache wider coherent = record {
+  single = λ line o. coherent.single line (wider line o);
+  clean = λ line o. coherent.clean line (wider line o);
+}
 
 module _ (shape : Shape) (out : ℕ → Bool) (ram : ℕ → ℕ) (cache : Slots) (set way : ℕ) (new : Slot) (l : way < shape.ways)
     (r : Replaces shape out set (cache set way) new) where

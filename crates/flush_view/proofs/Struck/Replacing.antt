@@ -7,7 +7,7 @@ use Rattle.wb_cache.specs.Contents.{Slot}
 use Rattle.wb_cache.specs.Lookup.{holds, line_of, set_of, tag_of}
 use Rattle.wb_cache.proofs.Lines.{line_from_parts}
 use Rattle.flush_view.specs.Struck.{IsOut, Replaces}
-use Rattle.flush_view.proofs.Memory.Ways.{holds-tag}
+use Rattle.wb_cache.proofs.Ways.{holds-tag}
 
 -- the line that a slot of a set holds
 pub held-line : (shape : Shape) (set line : ℕ) (slot : Slot) → set_of shape line ≡ set → holds shape line slot ≡ true → line ≡ line_of shape set slot.tag
@@ -46,7 +46,6 @@ module _ (shape : Shape) (out : ℕ → Bool) (set : ℕ) (old : Slot) where
   -- the same slot, invalid
   pub replaces-invalid : (old.dirty ≡ false) ⊎ IsOut shape out set old → Replaces shape out set old (record old { valid = false })
   replaces-invalid was = replaces-out (record old { valid = false }) (invalid-out shape out set (record old { valid = false }) refl) was
-
 
   -- the same slot, dirty
   pub replaces-dirty : Replaces shape out set old (record old { dirty = true })

@@ -13,7 +13,7 @@ use Rattle.flush_view.specs.Coherence.{Coherent, IsCoherent}
 use Rattle.flush_view.specs.Flush.{flush}
 use Rattle.flush_view.specs.Struck.{IsReplaced, MeansSame, OtherBytes, Replaces, SameOutside, StruckLaws, retimed, with_cache}
 use Rattle.flush_view.specs.Views.{cached, view}
-use Rattle.flush_view.proofs.Memory.Ways.{Slots}
+use Rattle.wb_cache.proofs.Ways.{Slots}
 use Rattle.flush_view.proofs.Struck.LineSlots.{other-cached, other-coherent, replaced-cached, replaced-coherent}
 use Rattle.flush_view.proofs.Struck.StoreSlots.{other-store, overlaid-seen}
 

@@ -4,5 +4,6 @@ use Rattle.avf_tool.proofs.perform.answer.Goals as goal
 
 pub returns : goal.returns
 returns g c =
-    told c.args.command.now.shape c.args.contents.now c.in_ok-image.image c.args.command.now.budget c.in_ok-recorded.recorded (task_answer c.args.command.now.task) c.task_answer.result
+    told c.args.command.now.shape c.args.contents.now c.in_ok-image.image c.args.command.now.budget c.in_ok-recorded.recorded
+    (task_answer c.args.command.now.task) c.task_answer.result
     c.requires.size c.in_ok-image.ensures.loaded c.in_ok-recorded.ensures.within c.task_answer.ensures

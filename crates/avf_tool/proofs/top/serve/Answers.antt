@@ -12,4 +12,5 @@ returns-in-Ok-clause-serves g c =
 
 pub returns-clause-serves : goal.returns-clause-serves
 returns-clause-serves g c =
-    fault_serves _ _ _ _ _ c.in-Some.ensures.is c.in_ok-text.text.items c.in_ok-text.ensures.answer c.in-Err.ensures.cause.failed (rw (← c.deref.ensures.value) c.in-Err.ensures.err)
+    fault_serves _ _ _ _ _ c.in-Some.ensures.is c.in_ok-text.text.items c.in_ok-text.ensures.answer c.in-Err.ensures.cause.failed
+    (rw (← c.deref.ensures.value) c.in-Err.ensures.err)

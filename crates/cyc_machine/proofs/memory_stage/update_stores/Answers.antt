@@ -12,8 +12,8 @@ append-requires c h =
     ap pending c.leave.ensures ∙ pending-kept c.args.image.now c.args.motion.now c.args.stores.now in
     let few : length (pending c.leave.new.stores) ≡ length (kept_stores c.args.image.now c.args.motion.now (pending c.args.stores.now)) = ap length kept in
     let less = length-kept c.args.image.now c.args.motion.now (pending c.args.stores.now) in
-    let room : c.len-room.result < 4 = grind (arith, nat_tests) in
-    let count = c.len-room.ensures in
+    let room : c.len.result < 4 = grind (arith, nat_tests) in
+    let count = c.len.ensures in
     omega (arith, less, count)
 
 pub returns : goal.returns
@@ -22,5 +22,7 @@ returns c =
     let kept : pending c.leave.new.stores ≡ kept_stores c.args.image.now c.args.motion.now (pending c.args.stores.now) =
     ap pending c.leave.ensures ∙ pending-kept c.args.image.now c.args.motion.now c.args.stores.now in
     c.append.ensures
-    ∙ ap (λ es. packed (es ++ appended c.args.image.now c.args.action.now (nat_lt c.len-room.result 4))) kept
-    ∙ ap (λ n. packed (kept_stores c.args.image.now c.args.motion.now (pending c.args.stores.now) ++ appended c.args.image.now c.args.action.now (nat_lt n 4))) c.len-room.ensures
+    ∙ ap (λ es. packed (es ++ appended c.args.image.now c.args.action.now (nat_lt c.len.result 4))) kept
+    ∙ ap
+    (λ n. packed (kept_stores c.args.image.now c.args.motion.now (pending c.args.stores.now)
+    ++ appended c.args.image.now c.args.action.now (nat_lt n 4))) c.len.ensures

@@ -21,9 +21,12 @@ loop-segment-init c = record {
 
 pub loop-segment-preserved : goal.loop-segment-preserved
 loop-segment-preserved c = record {
-  has = HasSegments-more c.args.segments.now c.loop-segment.segment-index c.args.base _ _ no_segment _ _ c.requires.fit c.loop-segment-test.true refl c.loop-segment.invariant.has c.put_bytes.ensures;
+  has =
+      HasSegments-more c.args.segments.now c.loop-segment.segment-index c.args.base _ _ no_segment _ _ c.requires.fit c.loop-segment-test.true refl
+      c.loop-segment.invariant.has c.put_bytes.ensures;
   bytes = λ k. omega (arith, c.type_inv.ram k);
 }
 
 pub returns-clause-ram : goal.returns-clause-ram
-returns-clause-ram c = HasSegments-all c.args.segments.now c.loop-segment.segment-index c.args.base _ _ c.requires.fit c.loop-segment-test.false c.loop-segment.invariant.has
+returns-clause-ram c =
+    HasSegments-all c.args.segments.now c.loop-segment.segment-index c.args.base _ _ c.requires.fit c.loop-segment-test.false c.loop-segment.invariant.has

@@ -13,8 +13,10 @@ code_of-requires c = accepted-FitRam _ c.args.entry c.args.ram _ c.base_address-
 
 pub from_parts-requires : goal.from_parts-requires
 from_parts-requires c =
-    made-IsImage _ c.args.entry c.args.ram c.base_address-base.result _ _ c.requires.ram c.requires.accepted c.base_address-base.ensures c.in_ok-memory.ensures.ram c.in_ok-code.ensures c.in_ok-memory.ensures.bytes
+    made-IsImage _ c.args.entry c.args.ram c.base_address-base.result _ _ c.requires.ram c.requires.accepted c.base_address-base.ensures
+    c.in_ok-memory.ensures.ram c.in_ok-code.ensures c.in_ok-memory.ensures.bytes
 
 pub returns : goal.returns
 returns c =
-    c.from_parts.ensures ∙ made _ c.args.entry c.args.ram c.base_address-base.result _ _ c.base_address-base.ensures c.in_ok-memory.ensures.ram c.in_ok-code.ensures
+    c.from_parts.ensures
+    ∙ made _ c.args.entry c.args.ram c.base_address-base.result _ _ c.base_address-base.ensures c.in_ok-memory.ensures.ram c.in_ok-code.ensures

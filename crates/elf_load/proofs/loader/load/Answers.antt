@@ -11,16 +11,19 @@ word_at-requires c =
 
 pub image_of-requires-clause-bytes : goal.image_of-requires-clause-bytes
 image_of-requires-clause-bytes c =
-    rw c.deref.ensures.value (accepted-bytes c.args.bytes.now c.args.ram (map lent c.in_ok-segments.segments.items) c.in_ok-segments.ensures.0 c.in_ok-segments.ensures.1)
+    rw c.deref.ensures.value (accepted-bytes c.args.bytes.now c.args.ram
+    (map lent c.in_ok-segments.segments.items) c.in_ok-segments.ensures.0 c.in_ok-segments.ensures.1)
 
 pub image_of-requires-clause-accepted : goal.image_of-requires-clause-accepted
 image_of-requires-clause-accepted c =
-    rw c.deref.ensures.value (accepted-layout c.args.bytes.now c.args.ram c.word_at.result (map lent c.in_ok-segments.segments.items) c.in_ok-segments.ensures.0 c.in_ok-segments.ensures.1 c.word_at.ensures)
+    rw c.deref.ensures.value (accepted-layout c.args.bytes.now c.args.ram c.word_at.result
+    (map lent c.in_ok-segments.segments.items) c.in_ok-segments.ensures.0 c.in_ok-segments.ensures.1 c.word_at.ensures)
 
 pub returns : goal.returns
 returns c =
     let made : c.in_ok-image_of.field-0 ≡ image_in (map lent c.in_ok-segments.segments.items) c.word_at.result c.args.ram =
     rw (← c.deref.ensures.value) c.in_ok-image_of.ensures in (
       c.in_ok-segments.ensures.0,
-      made ∙ accepted-image c.args.bytes.now c.args.ram c.word_at.result (map lent c.in_ok-segments.segments.items) c.in_ok-segments.ensures.1 c.word_at.ensures,
+      made
+          ∙ accepted-image c.args.bytes.now c.args.ram c.word_at.result (map lent c.in_ok-segments.segments.items) c.in_ok-segments.ensures.1 c.word_at.ensures,
     )

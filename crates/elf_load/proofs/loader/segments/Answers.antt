@@ -2,7 +2,8 @@ use Rattle.std.proofs.Common.{◌≡◌, map, Some, None, sym, ◌∙◌, rules,
 use Rattle.elf_load.specs.Answers.{lent}
 use Rattle.elf_load.specs.Refusal.{file_refusal, layout_refusal}
 use Rattle.elf_load.proofs.FileHeader.{accepted-long}
-use Rattle.elf_load.proofs.Refusing.{refused_in_order, accepted-AreSegments, refused_by_file, refused_by_headers, headers_refusal-interpreter, headers_refusal-range, found-IsPermutation, sorted-AreInOrder}
+use Rattle.elf_load.proofs.Refusing.{refused_in_order, accepted-AreSegments, refused_by_file, refused_by_headers, headers_refusal-interpreter}
+use Rattle.elf_load.proofs.Refusing.{headers_refusal-range, found-IsPermutation, sorted-AreInOrder}
 use Rattle.elf_load.proofs.loader.segments.Goals as goal
 
 pub returns-in-Some : goal.returns-in-Some
@@ -29,7 +30,9 @@ word_at-requires c =
 
 pub layout_refusal-requires : goal.layout_refusal-requires
 layout_refusal-requires c =
-    let same = found-IsPermutation c.args.bytes.now c.in_ok-found.found c.put_in_order.new.segments.items c.in_ok-found.ensures c.if-found-2.false c.put_in_order.ensures.same in
+    let same =
+    found-IsPermutation c.args.bytes.now c.in_ok-found.found c.put_in_order.new.segments.items c.in_ok-found.ensures c.if-found-2.false
+    c.put_in_order.ensures.same in
     record { order = rw c.deref.ensures.value (sorted-AreInOrder c.args.bytes.now c.put_in_order.new.segments.items same c.put_in_order.ensures.rising) }
 
 pub returns-in-Some-layout_refusal : goal.returns-in-Some-layout_refusal
@@ -37,7 +40,8 @@ returns-in-Some-layout_refusal c =
     let accepted : file_refusal c.args.bytes.now ≡ None = search rules in
     let answer : c.layout_refusal.result ≡ layout_refusal (map lent c.put_in_order.new.segments.items) c.word_at.result c.args.ram =
     rw (← c.deref.ensures.value) c.layout_refusal.ensures in
-    refused_in_order c.args.bytes.now c.in_ok-found.found c.put_in_order.new.segments.items c.word_at.result c.args.ram _ accepted c.in_ok-found.ensures c.if-found.false c.if-found-2.false c.put_in_order.ensures.same c.word_at.ensures answer
+    refused_in_order c.args.bytes.now c.in_ok-found.found c.put_in_order.new.segments.items c.word_at.result c.args.ram _ accepted c.in_ok-found.ensures
+    c.if-found.false c.if-found-2.false c.put_in_order.ensures.same c.word_at.ensures answer
     ∙ c.in-Some-layout_refusal.is
 
 pub returns : goal.returns
@@ -46,9 +50,12 @@ returns c =
     let answer : c.layout_refusal.result ≡ layout_refusal (map lent c.put_in_order.new.segments.items) c.word_at.result c.args.ram =
     rw (← c.deref.ensures.value) c.layout_refusal.ensures in
     let none : layout_refusal (map lent c.put_in_order.new.segments.items) c.word_at.result c.args.ram ≡ None = sym answer ∙ c.in-None.is in
-    let same = found-IsPermutation c.args.bytes.now c.in_ok-found.found c.put_in_order.new.segments.items c.in_ok-found.ensures c.if-found-2.false c.put_in_order.ensures.same in
+    let same =
+    found-IsPermutation c.args.bytes.now c.in_ok-found.found c.put_in_order.new.segments.items c.in_ok-found.ensures c.if-found-2.false
+    c.put_in_order.ensures.same in
     let order = sorted-AreInOrder c.args.bytes.now c.put_in_order.new.segments.items same c.put_in_order.ensures.rising in (
-      refused_in_order c.args.bytes.now c.in_ok-found.found c.put_in_order.new.segments.items c.word_at.result c.args.ram _ accepted c.in_ok-found.ensures c.if-found.false c.if-found-2.false c.put_in_order.ensures.same c.word_at.ensures answer
+      refused_in_order c.args.bytes.now c.in_ok-found.found c.put_in_order.new.segments.items c.word_at.result c.args.ram _ accepted c.in_ok-found.ensures
+          c.if-found.false c.if-found-2.false c.put_in_order.ensures.same c.word_at.ensures answer
           ∙ c.in-None.is,
       accepted-AreSegments c.args.bytes.now c.put_in_order.new.segments.items c.word_at.result c.args.ram same order none,
     )

@@ -10,22 +10,27 @@ loop-cycle-init g c =
 
 pub close-requires : goal.close-requires
 close-requires g c =
-    ends c.args.image.now c.args.shape.now c.loop-cycle.cycle c.loop-cycle.machine c.loop-cycle.journal c.run_cycle.new.journal c.loop-cycle.invariant.0 c.in_ok-end.ensures.written
+    ends c.args.image.now c.args.shape.now c.loop-cycle.cycle c.loop-cycle.machine c.loop-cycle.journal c.run_cycle.new.journal c.loop-cycle.invariant.0
+    c.in_ok-end.ensures.written
     c.requires.shape c.in-Some.end (c.loop-cycle.cycle + 1) (sym c.in_ok-end.ensures.end ∙ c.in-Some.is) (add-one c.loop-cycle.cycle)
 
 pub returns-in-Some-clause-answer : goal.returns-in-Some-clause-answer
 returns-in-Some-clause-answer g c =
-    let record_is = ends c.args.image.now c.args.shape.now c.loop-cycle.cycle c.loop-cycle.machine c.loop-cycle.journal c.run_cycle.new.journal c.loop-cycle.invariant.0 c.in_ok-end.ensures.written
+    let record_is = ends c.args.image.now c.args.shape.now c.loop-cycle.cycle c.loop-cycle.machine c.loop-cycle.journal c.run_cycle.new.journal
+    c.loop-cycle.invariant.0 c.in_ok-end.ensures.written
     c.requires.shape c.in-Some.end (c.loop-cycle.cycle + 1) (sym c.in_ok-end.ensures.end ∙ c.in-Some.is) (add-one c.loop-cycle.cycle) in
-    rw c.close.ensures (is_run c.args.image.now c.args.shape.now c.args.budget (c.loop-cycle.cycle + 1) c.in-Some.end c.run_cycle.new.journal c.run_law.ensures record_is (omega arith))
+    rw c.close.ensures
+    (is_run c.args.image.now c.args.shape.now c.args.budget (c.loop-cycle.cycle + 1) c.in-Some.end c.run_cycle.new.journal c.run_law.ensures record_is (omega arith))
 
 pub loop-cycle-preserved : goal.loop-cycle-preserved
 loop-cycle-preserved g c =
-    let next = goes_on c.args.image.now c.args.shape.now c.loop-cycle.cycle c.loop-cycle.machine c.loop-cycle.journal c.run_cycle.new.journal c.loop-cycle.invariant.0 c.in_ok-end.ensures.written
+    let next = goes_on c.args.image.now c.args.shape.now c.loop-cycle.cycle c.loop-cycle.machine c.loop-cycle.journal c.run_cycle.new.journal
+    c.loop-cycle.invariant.0 c.in_ok-end.ensures.written
     c.run_cycle.new.machine c.run_cycle.ensures.state (sym c.in_ok-end.ensures.end ∙ c.in_default.is) in
     (subst (λ t. Kept c.args.image.now c.args.shape.now t c.run_cycle.new.machine c.run_cycle.new.journal) (sym (add-one c.loop-cycle.cycle)) next, omega arith)
 
 pub returns-clause-answer : goal.returns-clause-answer
 returns-clause-answer g c =
     let last : c.loop-cycle.cycle ≡ c.args.budget = omega arith in
-    endless c.args.image.now c.args.shape.now c.args.budget c.run_law.ensures (subst (IsRunning c.args.image.now c.args.shape.now) last c.loop-cycle.invariant.0.running)
+    endless c.args.image.now c.args.shape.now c.args.budget c.run_law.ensures
+    (subst (IsRunning c.args.image.now c.args.shape.now) last c.loop-cycle.invariant.0.running)

@@ -6,7 +6,8 @@ pub loop-i-init : goal.loop-i-init
 loop-i-init c = rw c.new-last.ensures.empty (last-none c.args.trace.now.entries)
 
 pub loop-i-preserved : goal.loop-i-preserved
-loop-i-preserved c = last-more c.args.trace.now.entries c.loop-i.i c.entry.result.now c.loop-i.last.entries c.note_entry.new.last.entries c.entry.ensures.entry c.in_ok-note_entry.ensures c.loop-i.invariant
+loop-i-preserved c = last-more c.args.trace.now.entries c.loop-i.i c.entry.result.now c.loop-i.last.entries c.note_entry.new.last.entries
+    c.entry.ensures.entry c.in_ok-note_entry.ensures c.loop-i.invariant
 
 pub returns : goal.returns
 returns c =

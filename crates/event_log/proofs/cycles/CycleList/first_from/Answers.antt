@@ -10,6 +10,9 @@ unfolding first_from
 returns c =
     let e : c.deref.result.now ≡ c.args.self.now = c.deref.ensures.value ∙ c.self.view_is in
     let rising : IsRising c.deref.result.now = subst IsRising (sym e) c.requires in
-    let point = IsPartitionPoint-from_clause (λ x. ltb x c.args.t) c.deref.result.now _ c.partition_point-earlier.ensures.partitioned (partitioned (λ x. x) c.deref.result.now c.args.t rising) (λ a r q k. search rules) in
+    let point = IsPartitionPoint-from_clause (λ x. ltb x c.args.t) c.deref.result.now _ c.partition_point-earlier.ensures.partitioned
+    (partitioned (λ x. x) c.deref.result.now c.args.t rising) (λ a r q k. search rules) in
     let found = found-at (λ x. x) c.args.t c.deref.result.now c.partition_point-earlier.result c.partition_point-earlier.ensures.bound point.0 point.1 in
-    c.copied.ensures ∙ copied-item _ _ _ c.get.ensures.lookup ∙ ap (λ ys. slice_get ys c.partition_point-earlier.result) (c.deref-2.ensures.value ∙ sym c.deref.ensures.value) ∙ found ∙ ap (λ ys. find (λ x. leb c.args.t x) ys) e
+    c.copied.ensures ∙ copied-item _ _ _ c.get.ensures.lookup
+    ∙ ap (λ ys. slice_get ys c.partition_point-earlier.result) (c.deref-2.ensures.value ∙ sym c.deref.ensures.value) ∙ found
+    ∙ ap (λ ys. find (λ x. leb c.args.t x) ys) e

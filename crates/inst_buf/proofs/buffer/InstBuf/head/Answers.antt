@@ -1,5 +1,8 @@
-use Rattle.inst_buf.proofs.Packed.{first_entry}
+use Rattle.std.proofs.Common.{◌<◌, length, arith, refl}
+use Rattle.bit_field.proofs.Slots.{first_used}
 use Rattle.inst_buf.proofs.buffer.InstBuf.head.Goals as goal
 
 pub returns-then-slot : goal.returns-then-slot
-returns-then-slot c = rw (← c.self.view_is) (first_entry _ _ _ _ c.self.invariant c.loop-slot-test.true c.slot.view_is c.if-slot.true c.loop-slot.invariant)
+returns-then-slot c =
+    let within : c.loop-slot.slot-index < length c.self.inside.slots = omega arith in
+    rw (← c.self.view_is, first_used (λ e. e.valid) _ _ _ _ within c.slot.view_is c.if-slot.true c.loop-slot.invariant) refl

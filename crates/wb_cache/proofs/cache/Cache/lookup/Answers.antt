@@ -11,4 +11,6 @@ returns-then-tag-clause-way c =
     let within : c.loop-way.way < c.args.self.now.shape.ways = omega arith in
     let valid : (slots c.args.self.now (set_of c.args.self.now.shape c.args.line) c.loop-way.way).valid ≡ true = cc in
     let tag : (slots c.args.self.now (set_of c.args.self.now.shape c.args.line) c.loop-way.way).tag ≡ tag_of c.args.self.now.shape c.args.line = cc in
-    sym (first_below-found _ _ (λ w. holds c.args.self.now.shape c.args.line (slots c.args.self.now (set_of c.args.self.now.shape c.args.line) w)) within c.loop-way.invariant (holds-from c.args.self.now.shape c.args.line (slots c.args.self.now (set_of c.args.self.now.shape c.args.line) c.loop-way.way) valid tag))
+    sym (first_below-found _ _ (λ w. holds c.args.self.now.shape c.args.line (slots c.args.self.now (set_of c.args.self.now.shape c.args.line) w)) within
+    c.loop-way.invariant (holds-from c.args.self.now.shape c.args.line
+    (slots c.args.self.now (set_of c.args.self.now.shape c.args.line) c.loop-way.way) valid tag))

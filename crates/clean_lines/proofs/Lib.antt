@@ -1,0 +1,19 @@
+-- The chain, lowest first. Lists: one element beside a write and a refill. Moves: two caches that agree on the line that is asked for make
+-- the port move alike. OtherCache: then report and next state are the same but for cache and main memory. Stays: what a slot holds after a
+-- cycle. Data bits: OtherBytes, BytesRead (what a load takes), DataMoves (what a move makes of the cache), DataCycles, DataRuns. Tag bits:
+-- OtherTags, TagMoves, TagCycles, TagRuns. Alike, Law: what it comes to.
+mod Alike
+mod BytesRead
+mod DataCycles
+mod DataMoves
+mod DataRuns
+mod Law
+mod Lists
+mod Moves
+mod OtherBytes
+mod OtherCache
+mod OtherTags
+mod Stays
+mod TagCycles
+mod TagMoves
+mod TagRuns

@@ -1,0 +1,4 @@
+pub mod CleanCycle
+pub mod CleanLaw
+pub mod CleanRun
+pub mod Struck
