@@ -56,7 +56,7 @@ fn all<R: Abort + AllocGlobal + Files, L: Ledger, M: Ledger>(rt: &R, one: Blank,
     let mut applies = counter::<R, M>(rt, other);
     let three = "output -\nend exit 7\ninstructions 3\n";
     // The file is read by two reads, the second of which gives no byte.
-    let rows: [(&str, Faults<'_>, u8, &str, &str); 9] = [
+    let rows: [(&str, Faults<'_>, u8, &str, &str); 11] = [
         (
             "run a.elf 6",
             Faults {
@@ -155,6 +155,28 @@ fn all<R: Abort + AllocGlobal + Files, L: Ledger, M: Ledger>(rt: &R, one: Blank,
             3,
             "",
             "",
+        ),
+        (
+            "asm b.s",
+            Faults {
+                reads: &[],
+                out: &[],
+                err: &[],
+            },
+            3,
+            "",
+            "avf: read fault\n",
+        ),
+        (
+            "asm a.elf",
+            Faults {
+                reads: &[],
+                out: &[],
+                err: &[],
+            },
+            9,
+            "",
+            "avf: bad source 1 1\n",
         ),
     ];
     for (line, faults, status, out_text, err_text) in &rows {

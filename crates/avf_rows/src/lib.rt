@@ -7,3 +7,5 @@ mod fault_rows;
 mod images;
 #[cfg(test)]
 mod rows;
+#[cfg(test)]
+mod source_rows;

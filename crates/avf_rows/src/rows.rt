@@ -22,13 +22,14 @@ pub fn words(alloc: Global, line: &str) -> Result<Vec<String>, AllocError> {
 
 // What a call of the tool gave.
 #[derive(Drop)]
-struct Given {
-    status: u8,
-    out: PlainSink,
-    err: PlainSink,
+pub struct Given {
+    pub status: u8,
+    pub out: PlainSink,
+    pub err: PlainSink,
 }
 
-fn call<L: Ledger, M: Ledger>(
+// The words over a shelf on which `a.elf` and `a.s` hold these bytes.
+pub fn call<L: Ledger, M: Ledger>(
     alloc: Global,
     words: &[String],
     file: &[u8],
@@ -37,6 +38,7 @@ fn call<L: Ledger, M: Ledger>(
 ) -> Result<Given, OutOfMemory> {
     let mut shelf = PlainShelf::new(alloc);
     shelf.put("a.elf", file)?;
+    shelf.put("a.s", file)?;
     let mut out = PlainSink::new(alloc, 4096)?;
     let mut err = PlainSink::new(alloc, 4096)?;
     let status = run_tool(alloc, words, &mut shelf, &mut out, &mut err, steps, applies);
@@ -44,7 +46,7 @@ fn call<L: Ledger, M: Ledger>(
 }
 
 // Asserts one row: the words over this file give this status and text, on `out` for status 0 and on `err` else.
-fn row<R: Abort + AllocGlobal, L: Ledger, M: Ledger>(
+pub fn row<R: Abort + AllocGlobal, L: Ledger, M: Ledger>(
     rt: &R,
     steps: &mut Steps<L>,
     applies: &mut Steps<M>,
@@ -73,7 +75,7 @@ fn spellings<R: Abort + AllocGlobal, L: Ledger, M: Ledger>(
     applies: &mut Steps<M>,
 ) {
     let file = flat(rt.alloc(), &THREE).expect(rt, "ample memory");
-    let lines: [&str; 16] = [
+    let lines: [&str; 20] = [
         "run a.elf 0",
         "run a.elf 1000001",
         "run a.elf 006",
@@ -90,6 +92,10 @@ fn spellings<R: Abort + AllocGlobal, L: Ledger, M: Ledger>(
         "with 1 32 2 fly a.elf 6",
         "with 1 32 2 with 1 32 2 run a.elf 6",
         "with",
+        "asm",
+        "asm ",
+        "asm a.s 6",
+        "with 1 32 2 asm a.s",
     ];
     for line in &lines {
         row(rt, steps, applies, line, &file, 2, "avf: usage\n");

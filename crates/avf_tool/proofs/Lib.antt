@@ -6,5 +6,6 @@ mod Programs
 mod Rams
 mod Retold
 mod Runs
+mod Sources
 mod Traces
 mod Serving

@@ -1,16 +1,18 @@
 -- What each command answers for the contents of its file.
 use Rattle.std.specs.Prelude.{ℕ, List, length, Option, Some, None, nat_lt, if◌then◌else◌, ◌*◌, ◌^◌}
 use Rattle.avf_base.specs.declared.refusal.Refusal.{Refusal}
-use Rattle.avf_base.specs.declared.refusal.Refusal.TheVariants.{BadImage, NoEnd}
+use Rattle.avf_base.specs.declared.refusal.Refusal.TheVariants.{BadImage, BadSource, NoEnd}
 use Rattle.bit_field.specs.declared.shapes.Shape.{Shape}
 use Rattle.elf_load.specs.Image.{LoadedImage}
 use Rattle.elf_load.specs.Meaning.{image_of}
 use Rattle.elf_load.specs.Refusal.{first_refusal}
 use Rattle.run_record.specs.Run.{RecordedRun}
 use Rattle.run_record.specs.Within.{record_within}
+use Rattle.rv_asm.specs.Sources.{assembled, fault_in, number_of}
+use Rattle.rv_asm.specs.declared.fault.Fault.{Fault}
 use Rattle.avf_tool.specs.Programs.{instructions_of}
 use Rattle.avf_tool.specs.Texts.{deadness_text, run_text}
-use Rattle.avf_tool.specs.Words.{Job, OnImage}
+use Rattle.avf_tool.specs.Words.{Job, OnImage, Assemble}
 use Rattle.avf_tool.specs.declared.command.Task.{Task}
 use Rattle.avf_tool.specs.declared.command.Task.TheVariants.{Run, Dead}
 use Rattle.avf_tool.specs.declared.stages.TheConstants.{IMAGE_LIMIT, TOO_LONG}
@@ -47,6 +49,15 @@ abbrev pub task_answer : Task → RecordedRun → Answer
 task_answer Run run = Text (run_text run.output run.end run.instructions)
 task_answer Dead run = Text (deadness_text (instructions_of run))
 
+abbrev pub unless_faulty : Option (ℕ × Fault) → Answer → Answer
+unless_faulty (Some fault) next = Refused (BadSource fault.0 (number_of fault.1))
+unless_faulty None next = next
+
+-- the file of a source, unless it has a fault: line 0 is the whole source
+abbrev pub source_answer : List ℕ → Answer
+source_answer source = unless_faulty (fault_in source) (Text (assembled source))
+
 -- what a command answers where its file holds these contents
 abbrev pub answer : Job → List ℕ → Answer
 answer (OnImage job) contents = on_image job.shape contents (on_run job.shape job.budget (task_answer job.task))
+answer (Assemble name) contents = source_answer contents

@@ -1,9 +1,12 @@
 -- A command of the program, seen as a job.
 use Rattle.avf_tool.specs.declared.command.Command.{Command}
-use Rattle.avf_tool.specs.Words.{ImageJob, Job, OnImage}
+use Rattle.avf_tool.specs.declared.command.Command.TheVariants.{Image, Assembly}
+use Rattle.avf_tool.specs.declared.command.ImageCommand.{ImageCommand}
+use Rattle.avf_tool.specs.Words.{ImageJob, Job, OnImage, Assemble}
 
-abbrev pub image_job_of : Command → ImageJob
+abbrev pub image_job_of : ImageCommand → ImageJob
 image_job_of c = record { shape = c.shape; image = c.image.now; budget = c.budget; task = c.task }
 
 abbrev pub job_of : Command → Job
-job_of c = OnImage (image_job_of c)
+job_of (Image c) = OnImage (image_job_of c)
+job_of (Assembly source) = Assemble source.now

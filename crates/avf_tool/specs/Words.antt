@@ -1,5 +1,5 @@
 -- Which words are which command.
-use Rattle.std.specs.Prelude.{◌≤◌, ℕ, List, [], ◌∷◌, length, Option, None, Some, String, string_bytes, map, codes, bytes_eq, nat_lt, ◌==◌, if◌then◌else◌}
+use Rattle.std.specs.Prelude.{◌≤◌, ⊤, ℕ, List, [], ◌∷◌, length, Option, None, Some, String, string_bytes, map, codes, bytes_eq, nat_lt, ◌==◌, if◌then◌else◌}
 use Rattle.std.specs.Option.{option_and_then, option_map}
 use Rattle.std.specs.declared.alloc.Global.{Global}
 use Rattle.bit_field.specs.Shapes.{IsShape, plain}
@@ -19,6 +19,8 @@ pub record ImageJob : Type 0 where
 -- A command with its arguments. One that isn't about the run of an image in a file has a case of its own here.
 pub data Job : Type 0 where
   OnImage : ImageJob → Job
+  -- `asm`: the file of the source that the file of a name holds
+  Assemble : List ℕ → Job
 
 -- a task by its name, and what the words behind IMAGE and BUDGET make of it
 pub record TaskWords : Type 0 where
@@ -75,11 +77,18 @@ abbrev pub with_job : List (List ℕ) → Option Job
 with_job (mib ∷ sets ∷ ways ∷ words) = option_and_then (λ shape. command_on shape words) (shape_words mib sets ways)
 with_job _ = None
 
+-- SOURCE: any word that isn't empty
+abbrev pub asm_job : List (List ℕ) → Option Job
+asm_job (source ∷ []) = if nat_lt 0 (length source) then Some (Assemble source) else None
+asm_job _ = None
+
 -- The command that these words are, or none; the machine has the plain shape unless `with` names another. A command that may not
 -- stand behind `with` has a case of its own here.
 abbrev pub command_of : List (List ℕ) → Option Job
 command_of (name ∷ args) =
-    if bytes_eq name (codes "with") then with_job args else command_on plain (name ∷ args)
+    if bytes_eq name (codes "with") then with_job args
+    else if bytes_eq name (codes "asm") then asm_job args
+    else command_on plain (name ∷ args)
 command_of [] = None
 
 -- the words as texts
@@ -89,6 +98,7 @@ texts words = map string_bytes words
 -- what a command reads, where that is told
 abbrev pub told_to : Job → (List ℕ → Option (List ℕ)) → Option (List ℕ)
 told_to (OnImage job) holds = holds job.image
+told_to (Assemble source) holds = holds source
 
 -- What a machine can run: the cycles and the shape are in their ranges.
 pub record IsRunnable (job : ImageJob) : Type 0 where
@@ -98,3 +108,4 @@ pub record IsRunnable (job : ImageJob) : Type 0 where
 
 abbrev pub IsDoable : Job → Type 0
 IsDoable (OnImage job) = IsRunnable job
+IsDoable (Assemble source) = ⊤

@@ -2,7 +2,7 @@
 ghost use Rattle.std.specs.Prelude.{◌≡◌, MatchOption, IfSome, Some, None};
 ghost use Rattle.bit_field.specs.Shapes.{IsShape};
 ghost use Rattle.avf_tool.specs.Words as asked;
-ghost use Rattle.avf_tool.specs.Words.{IsDoable, command_of, command_on, task_in, tasks, texts, with_job};
+ghost use Rattle.avf_tool.specs.Words.{IsDoable, asm_job, command_of, command_on, task_in, tasks, texts, with_job};
 ghost use Rattle.avf_tool.specs.Jobs.{job_of};
 
 use crate::numbers::number;
@@ -19,14 +19,23 @@ pub enum Task {
     Dead,
 }
 
-/// A command with its arguments: the machine's shape, the name of the file that has the image, how many cycles the run may
-/// take, and what is told of it.
+/// What is told of the run of an image: the machine's shape, the name of the file that has the image, how many cycles the run
+/// may take, and what is told of it.
 #[derive(Clone, Copy)]
-pub struct Command<'a> {
+pub struct ImageCommand<'a> {
     pub shape: Shape,
     pub image: &'a str,
     pub budget: u32,
     pub task: Task,
+}
+
+/// A command with its arguments.
+#[derive(Clone, Copy)]
+pub enum Command<'a> {
+    /// It tells of the run of an image.
+    Image(ImageCommand<'a>),
+    /// It assembles the source in the file of this name.
+    Assembly(&'a str),
 }
 
 // A task that has no words of its own.
@@ -59,12 +68,12 @@ fn image_command<'a>(shape: Shape, image: &'a str, budget: &str, task: Task) -> 
         return None;
     }
     let budget = number(budget, 1, u64::from(LONGEST_RUN))?;
-    Some(Command {
+    Some(Command::Image(ImageCommand {
         shape,
         image,
         budget: budget as u32,
         task,
-    })
+    }))
 }
 
 // The command that these words are, on a machine of this shape.
@@ -95,6 +104,23 @@ fn with_command(args: &[String]) -> Option<Command<'_>>
     }
 }
 
+// SOURCE: any word that isn't empty.
+fn asm_command(args: &[String]) -> Option<Command<'_>>
+    ensures is { MatchOption result (asm_job (texts args.now) ≡ None) (λ c. asm_job (texts args.now) ≡ Some (job_of c)) }
+    ensures does { IfSome result (λ c. IsDoable (job_of c)) }
+{
+    match args {
+        [source] => {
+            if source.is_empty() {
+                None
+            } else {
+                Some(Command::Assembly(source.as_str()))
+            }
+        }
+        _ => None,
+    }
+}
+
 /// The command that these words are.
 pub fn read_words(words: &[String]) -> Option<Command<'_>>
     ensures is { MatchOption result (command_of (texts words.now) ≡ None) (λ c. command_of (texts words.now) ≡ Some (job_of c)) }
@@ -104,6 +130,8 @@ pub fn read_words(words: &[String]) -> Option<Command<'_>>
         [name, args @ ..] => {
             if name.as_str() == "with" {
                 with_command(args)
+            } else if name.as_str() == "asm" {
+                asm_command(args)
             } else {
                 command_on(plain_shape(), words)
             }

@@ -1,13 +1,15 @@
 // What each command answers.
 ghost use Rattle.std.specs.Prelude.{◌≡◌, ◌≤◌, List, ℕ, length};
 ghost use Rattle.avf_tool.specs.Answers.{answer, task_answer};
-ghost use Rattle.avf_tool.specs.Jobs.{job_of};
+ghost use Rattle.avf_tool.specs.Jobs.{image_job_of, job_of};
 ghost use Rattle.run_log.specs.Answers.{IsProgram};
 ghost use Rattle.avf_tool.specs.Stages.{Answers, IsDeadText, IsText};
-ghost use Rattle.avf_tool.specs.Words.{IsDoable, told_to};
+ghost use Rattle.avf_tool.specs.Words.{Assemble, IsDoable, IsRunnable, OnImage, told_to};
 
-use crate::command::{Command, Task};
-use crate::stages::{IMAGE_LIMIT, load_image, read_image, run_image, trace_run};
+use crate::command::{Command, ImageCommand, Task};
+use crate::stages::{
+    IMAGE_LIMIT, assemble_source, load_image, read_image, read_source, run_image, trace_run,
+};
 use crate::texts::{dead_counts, dead_text, run_text};
 use avf_base::{Refusal, Shelf, Steps};
 use dead_class::classify;
@@ -64,21 +66,49 @@ fn task_answer<M: Ledger>(
     }
 }
 
-// What a command answers for the contents of its file, of at most `IMAGE_LIMIT` bytes.
+// What is told of the run of the image that a file's contents mean, of at most `IMAGE_LIMIT` bytes.
 fn answer<L: Ledger, M: Ledger>(
     alloc: Global,
-    command: &Command<'_>,
+    command: &ImageCommand<'_>,
     contents: &[u8],
     steps: &mut Steps<L>,
     applies: &mut Steps<M>,
 ) -> Result<Vec<u8>, Refusal>
     requires size { length contents.now ≤ IMAGE_LIMIT }
-    requires does { IsDoable (job_of command.now) }
-    ensures { IsText (answer (job_of command.now) contents.now) result }
+    requires does { IsRunnable (image_job_of command.now) }
+    ensures { IsText (answer (OnImage (image_job_of command.now)) contents.now) result }
 {
     let image = load_image(alloc, contents, &command.shape)?;
     let recorded = run_image(alloc, &image, &command.shape, command.budget, steps)?;
     task_answer(alloc, command.task, &recorded, applies)
+}
+
+// Reads an image, and tells of its run.
+fn tell_image<H: Shelf, L: Ledger, M: Ledger>(
+    alloc: Global,
+    command: &ImageCommand<'_>,
+    shelf: &mut H,
+    steps: &mut Steps<L>,
+    applies: &mut Steps<M>,
+) -> Result<Vec<u8>, Refusal>
+    requires { IsRunnable (image_job_of command.now) }
+    ensures answer { Answers (OnImage (image_job_of command.now)) (H.holds shelf.old command.now.image.now) (H.faults shelf.old) (H.faults shelf.new) result }
+    ensures keeps { (n : List ℕ) → H.holds shelf.new n ≡ H.holds shelf.old n }
+    ensures later { H.faults shelf.old ≤ H.faults shelf.new }
+{
+    let contents = read_image(alloc, shelf, command.image)?;
+    answer(alloc, command, &contents, steps, applies)
+}
+
+// Reads a source, and assembles it.
+#[tactic(auto, using(crate::proofs::Sources::too_long))]
+fn assemble_file<H: Shelf>(alloc: Global, name: &str, shelf: &mut H) -> Result<Vec<u8>, Refusal>
+    ensures answer { Answers (Assemble name.now) (H.holds shelf.old name.now) (H.faults shelf.old) (H.faults shelf.new) result }
+    ensures keeps { (n : List ℕ) → H.holds shelf.new n ≡ H.holds shelf.old n }
+    ensures later { H.faults shelf.old ≤ H.faults shelf.new }
+{
+    let source = read_source(alloc, shelf, name)?;
+    assemble_source(alloc, &source)
 }
 
 /// Performs a command: its text, or why there is none.
@@ -94,6 +124,8 @@ pub fn perform<H: Shelf, L: Ledger, M: Ledger>(
     ensures keeps { (n : List ℕ) → H.holds shelf.new n ≡ H.holds shelf.old n }
     ensures later { H.faults shelf.old ≤ H.faults shelf.new }
 {
-    let contents = read_image(alloc, shelf, command.image)?;
-    answer(alloc, command, &contents, steps, applies)
+    match command {
+        Command::Image(command) => tell_image(alloc, command, shelf, steps, applies),
+        Command::Assembly(source) => assemble_file(alloc, source, shelf),
+    }
 }

@@ -1,16 +1,17 @@
 // What the commands have in common: a file is read, an image is loaded, and it runs.
 ghost use Rattle.std.specs.Prelude.{◌≡◌, ◌≤◌, List, ℕ, length, IfOk};
 ghost use Rattle.avf_base.specs.Refusals.{ByContents, cause_of};
-ghost use Rattle.avf_base.specs.declared.refusal.Refusal.TheVariants.{BadImage};
+ghost use Rattle.avf_base.specs.declared.refusal.Refusal.TheVariants.{BadImage, BadSource};
 ghost use Rattle.bit_field.specs.Shapes.{IsShape};
-ghost use Rattle.avf_tool.specs.Answers.{ram_size};
+ghost use Rattle.avf_tool.specs.Answers.{ram_size, source_answer};
 ghost use Rattle.run_log.specs.Answers.{IsProgram};
-ghost use Rattle.avf_tool.specs.Stages.{IsLoaded, IsRead, Ran, Traced};
+ghost use Rattle.avf_tool.specs.Stages.{IsLoaded, IsRead, IsText, Ran, Traced};
 
 use avf_base::{ReadError, Refusal, Shelf, Steps, read_file};
 use bit_field::Shape;
 use elf_load::{Image, LoadError, load};
 use run_log::{LONGEST_RUN, RecordError, Recorded, record_shaped};
+use rv_asm::{AsmError, SOURCE_ROOM, assemble};
 use rv_isa::{IsaError, Trace, run_clocked};
 use std::alloc::Global;
 use std::sync::ledger::Ledger;
@@ -20,6 +21,12 @@ pub const IMAGE_LIMIT: u32 = 16_777_216;
 
 /// Why a longer image is refused, as the number of a bad image.
 pub const TOO_LONG: u8 = 13;
+
+/// The line of a fault that is the whole source's.
+pub const WHOLE_SOURCE: u32 = 0;
+
+/// Why a source of more than `SOURCE_ROOM` bytes is refused, as the cause of a bad source.
+pub const BAD_SIZE: u8 = 7;
 
 // Bytes of a MiB.
 const MIB: u32 = 1_048_576;
@@ -52,6 +59,31 @@ pub fn read_image<H: Shelf>(alloc: Global, shelf: &mut H, name: &str) -> Result<
     ensures later { H.faults shelf.old ≤ H.faults shelf.new }
 {
     read_limited(alloc, shelf, name, IMAGE_LIMIT, Refusal::BadImage(TOO_LONG))
+}
+
+/// The bytes of a source. One of more than `SOURCE_ROOM` bytes is refused as `BAD_SIZE` of the whole source.
+pub fn read_source<H: Shelf>(alloc: Global, shelf: &mut H, name: &str) -> Result<Vec<u8>, Refusal>
+    ensures read { IsRead (BadSource WHOLE_SOURCE BAD_SIZE) SOURCE_ROOM (H.holds shelf.old name.now) (H.faults shelf.old) (H.faults shelf.new) result }
+    ensures keeps { (n : List ℕ) → H.holds shelf.new n ≡ H.holds shelf.old n }
+    ensures later { H.faults shelf.old ≤ H.faults shelf.new }
+{
+    let long = Refusal::BadSource {
+        line: WHOLE_SOURCE,
+        cause: BAD_SIZE,
+    };
+    read_limited(alloc, shelf, name, SOURCE_ROOM as u32, long)
+}
+
+/// The file of a source, or its first fault.
+#[tactic(auto, using(crate::proofs::Sources::lemmas))]
+pub fn assemble_source(alloc: Global, source: &[u8]) -> Result<Vec<u8>, Refusal>
+    ensures { IsText (source_answer source.now) result }
+{
+    match assemble(alloc, source) {
+        Ok(file) => Ok(file),
+        Err(AsmError::Bad { line, cause }) => Err(Refusal::BadSource { line, cause }),
+        Err(AsmError::OutOfMemory) => Err(Refusal::OutOfMemory),
+    }
 }
 
 /// The image that a file's bytes mean on a machine of this shape, or the first reason to refuse them.

@@ -21,6 +21,7 @@ mod tokens;
 
 pub use assembler::assemble;
 pub use error::AsmError;
+pub use layout::SOURCE_ROOM;
 
 #[cfg(test)]
 mod tests;
