@@ -20,7 +20,8 @@ statement_of-mark in_data _ f e = refl
 
 pub ruleset nothing = (statement_of-none, statement_of-mark)
 
-pub statement_of-word : (in_data : Bool) (ts rest : List Token) (bytes : List ℕ) → first_word ts ≡ Some (bytes, rest) → statement_of in_data ts ≡ spoken in_data bytes rest
+pub statement_of-word : (in_data : Bool) (ts rest : List Token) (bytes : List ℕ) → first_word ts ≡ Some (bytes, rest)
+    → statement_of in_data ts ≡ spoken in_data bytes rest
 unfolding statement_of first_word
 statement_of-word in_data (Word word ∷ ts) rest bytes f =
     let same : (word, ts) ≡ (bytes, rest) = cc in
@@ -30,16 +31,17 @@ statement_of-word in_data _ rest bytes f = absurd cc
 pub ruleset begun = statement_of-word
 
 pub before_colon-chain : (ts : List Token) → before_colon ts ≡ (do
-    name ← first_word ts
-    rest ← behind COLON name.1
-    Some (name.0, rest))
+  name ← first_word ts
+  rest ← behind COLON name.1
+  Some (name.0, rest))
 unfolding before_colon first_word behind
 before_colon-chain (Word word ∷ Colon ∷ ts) = refl
 before_colon-chain _ = refl
 
 pub ruleset colons = before_colon-chain
 
-pub labelled-colon : (in_data : Bool) (ts rest : List Token) (bytes : List ℕ) → before_colon ts ≡ Some (bytes, rest) → labelled in_data ts ≡ with_label in_data bytes rest
+pub labelled-colon : (in_data : Bool) (ts rest : List Token) (bytes : List ℕ) → before_colon ts ≡ Some (bytes, rest)
+    → labelled in_data ts ≡ with_label in_data bytes rest
 unfolding labelled before_colon
 labelled-colon in_data (Word word ∷ Colon ∷ ts) rest bytes f =
     let same : (word, ts) ≡ (bytes, rest) = cc in

@@ -47,7 +47,7 @@ unfoldable pub fault_in : List ℕ → Option (ℕ × Fault)
 fault_in source =
     if nat_lt SOURCE_ROOM (length source) then Some (0, BadSize)
     else option_or (first_fault (place_of source) start 1 (lines source))
-      (if has_bad_size (end_of start (lines source)) then Some (0, BadSize) else None)
+    (if has_bad_size (end_of start (lines source)) then Some (0, BadSize) else None)
 
 -- the number that is printed for a fault
 abbrev pub number_of : Fault → ℕ
@@ -69,7 +69,7 @@ pub record IsProgram (source : List ℕ) : Type 0 where
   pub decodes : AllByRecursion IsCoded (program source)
   pub loads : IsLoaded (entry source) (text_part source) (data_part source)
   pub refusal : (ram : ℕ) → IsRamSize ram
-    → first_refusal (assembled source) ram ≡ (if entry source == TEXT_BASE + length (text_part source) then Some 12 else None)
+      → first_refusal (assembled source) ram ≡ (if entry source == TEXT_BASE + length (text_part source) then Some 12 else None)
 
 -- The file of the source, where it has no fault; or the fault's line and number; or `OutOfMemory`.
 abbrev pub Assembles : List ℕ → Result (Vec ℕ Global) AsmError → Type 0

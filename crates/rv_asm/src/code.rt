@@ -100,7 +100,10 @@ fn put_number(text_part: &mut Vec<u8>, op: Op, n: i64) -> Result<(), AllocError>
     ensures bytes { OnOk result (text_part.new.items ≡ text_part.old.items ++ op_bytes (spec.with_immediate op (spec.immediate_of (form_of op.code) n))) }
     ensures coded { OnOk result (IsCoded (spec.with_immediate op (spec.immediate_of (form_of op.code) n))) }
 {
-    put_op(text_part, &with_immediate(op, immediate_of(form_of(op.code), n)))
+    put_op(
+        text_part,
+        &with_immediate(op, immediate_of(form_of(op.code), n)),
+    )
 }
 
 /// Puts a branch or a jump to a goal that it reaches.
@@ -134,7 +137,10 @@ fn put_number_into(text_part: &mut Vec<u8>, rd: u8, n: i64) -> Result<(), AllocE
     ensures coded { OnOk result (AllByRecursion IsCoded (spec.number_into rd n)) }
 {
     if is_short(n) {
-        put_op(text_part, &with_immediate(plain(codes::ADDI, rd, 0, 0), unsigned(n)))
+        put_op(
+            text_part,
+            &with_immediate(plain(codes::ADDI, rd, 0, 0), unsigned(n)),
+        )
     } else {
         put_pair(text_part, rd, u64::from(unsigned(n)))
     }
@@ -254,7 +260,11 @@ pub struct Parts {
 }
 
 /// The parts of a source that has no fault on a line.
-pub fn put_lines(alloc: Global, source: &[u8], labels: &HashMap<&[u8], Place>) -> Result<Parts, AllocError>
+pub fn put_lines(
+    alloc: Global,
+    source: &[u8],
+    labels: &HashMap<&[u8], Place>,
+) -> Result<Parts, AllocError>
     requires small { length source.now ≤ SOURCE_ROOM }
     requires faultless { first_fault (found labels.now) start 1 (lines source.now) ≡ None }
     ensures code { IfOk result (λ p. p.text_part.items ≡ flat_map op_bytes (spec.ops_in (found labels.now) start (lines source.now))) }
@@ -275,7 +285,14 @@ pub fn put_lines(alloc: Global, source: &[u8], labels: &HashMap<&[u8], Place>) -
     while !rest.is_empty() {
         let (bytes, behind) = next_line(rest);
         let line = line_of(cursor.in_data, bytes);
-        put_line(&mut text_part, &mut data_part, labels, cursor, number, &line)?;
+        put_line(
+            &mut text_part,
+            &mut data_part,
+            labels,
+            cursor,
+            number,
+            &line,
+        )?;
         cursor = passed(cursor, &line);
         number += 1;
         rest = behind;

@@ -37,21 +37,66 @@ pub struct NamedKeyword {
 
 /// The further forms and the directives.
 static FURTHER: [NamedKeyword; 15] = [
-    NamedKeyword { name: "nop", keyword: Keyword::Nop },
-    NamedKeyword { name: "mv", keyword: Keyword::Move },
-    NamedKeyword { name: "j", keyword: Keyword::Jump },
-    NamedKeyword { name: "call", keyword: Keyword::Call },
-    NamedKeyword { name: "jr", keyword: Keyword::JumpRegister },
-    NamedKeyword { name: "ret", keyword: Keyword::Return },
-    NamedKeyword { name: "beqz", keyword: Keyword::BranchIfZero },
-    NamedKeyword { name: "bnez", keyword: Keyword::BranchIfNotZero },
-    NamedKeyword { name: "li", keyword: Keyword::LoadImmediate },
-    NamedKeyword { name: "la", keyword: Keyword::LoadAddress },
-    NamedKeyword { name: ".text", keyword: Keyword::TextPart },
-    NamedKeyword { name: ".data", keyword: Keyword::DataPart },
-    NamedKeyword { name: ".word", keyword: Keyword::Word },
-    NamedKeyword { name: ".byte", keyword: Keyword::Byte },
-    NamedKeyword { name: ".space", keyword: Keyword::Space },
+    NamedKeyword {
+        name: "nop",
+        keyword: Keyword::Nop,
+    },
+    NamedKeyword {
+        name: "mv",
+        keyword: Keyword::Move,
+    },
+    NamedKeyword {
+        name: "j",
+        keyword: Keyword::Jump,
+    },
+    NamedKeyword {
+        name: "call",
+        keyword: Keyword::Call,
+    },
+    NamedKeyword {
+        name: "jr",
+        keyword: Keyword::JumpRegister,
+    },
+    NamedKeyword {
+        name: "ret",
+        keyword: Keyword::Return,
+    },
+    NamedKeyword {
+        name: "beqz",
+        keyword: Keyword::BranchIfZero,
+    },
+    NamedKeyword {
+        name: "bnez",
+        keyword: Keyword::BranchIfNotZero,
+    },
+    NamedKeyword {
+        name: "li",
+        keyword: Keyword::LoadImmediate,
+    },
+    NamedKeyword {
+        name: "la",
+        keyword: Keyword::LoadAddress,
+    },
+    NamedKeyword {
+        name: ".text",
+        keyword: Keyword::TextPart,
+    },
+    NamedKeyword {
+        name: ".data",
+        keyword: Keyword::DataPart,
+    },
+    NamedKeyword {
+        name: ".word",
+        keyword: Keyword::Word,
+    },
+    NamedKeyword {
+        name: ".byte",
+        keyword: Keyword::Byte,
+    },
+    NamedKeyword {
+        name: ".space",
+        keyword: Keyword::Space,
+    },
 ];
 
 fn further() -> &'static [NamedKeyword]

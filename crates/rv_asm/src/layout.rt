@@ -75,13 +75,7 @@ pub fn size(statement: &Statement) -> u64
         Statement::DataSpace(n) => space_size(n),
         Statement::DataWord(_) | Statement::Ready(_) => 4,
         Statement::WithNumber(_, _) | Statement::WithLabel(_, _) => 4,
-        Statement::NumberInto(_, n) => {
-            if is_short(n) {
-                4
-            } else {
-                8
-            }
-        }
+        Statement::NumberInto(_, n) => { if is_short(n) { 4 } else { 8 } }
         Statement::AddressInto(_, _) => 8,
     }
 }

@@ -7,7 +7,9 @@ ghost use Rattle.rv_asm.specs.Lines.{lines};
 ghost use Rattle.rv_asm.specs.Shown.{shown, shown_fault, shown_line, shown_lines};
 
 use crate::fault::Fault;
-use crate::layout::{Cursor, Place, SOURCE_ROOM, address, find, is_short, is_space, is_within, passed};
+use crate::layout::{
+    Cursor, Place, SOURCE_ROOM, address, find, is_short, is_space, is_within, passed,
+};
 use crate::line::{Line, line_of, next_line};
 use crate::statement::Statement;
 use rv_table::{Form, form_of};

@@ -53,7 +53,11 @@ pub fn behind(mark: u8, text: &[u8]) -> Option<&[u8]>
     if text.is_empty() {
         return None;
     }
-    if text[0] == mark { Some(&text[1..]) } else { None }
+    if text[0] == mark {
+        Some(&text[1..])
+    } else {
+        None
+    }
 }
 
 /// Nothing, where the text has no token.

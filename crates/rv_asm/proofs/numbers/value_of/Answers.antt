@@ -1,4 +1,4 @@
-use Rattle.std.proofs.Common.{◌≤◌, ◌∙◌, sym, arith}
+use Rattle.std.proofs.Common.{◌∙◌, sym, arith}
 use Rattle.rv_asm.proofs.Digits.{digit_more, digits_read}
 use Rattle.rv_asm.proofs.numbers.value_of.Goals as goal
 
@@ -6,9 +6,9 @@ pub loop-digit-preserved : goal.loop-digit-preserved
 loop-digit-preserved c = record {
   within = omega (arith, c.min-number.ensures);
   worth =
-    rw (c.min-number.ensures, c.digit_value.ensures.value)
+      rw (c.min-number.ensures, c.digit_value.ensures.value)
       (digit_more c.args.base c.loop-digit.number c.args.digits.now c.loop-digit.digit-index c.requires.least c.loop-digit-test.true
-        ∙ c.loop-digit.invariant.worth);
+      ∙ c.loop-digit.invariant.worth);
 }
 
 pub returns-clause-value : goal.returns-clause-value

@@ -1,0 +1,9 @@
+pub mod Agreeing
+pub mod Completed
+pub mod Differences
+pub mod EffectsTold
+pub mod Fields
+pub mod MaskLoops
+pub mod Masked
+pub mod Puts
+pub mod WordBits

@@ -1,0 +1,32 @@
+-- The bits of an instruction word.
+use Rattle.std.proofs.Common.{◌≡◌, ◌↔◌, ℕ, ◌+◌, Bool, true, false, arith}
+use Rattle.std.specs.Prelude.{IsTrue, slice_index}
+use Rattle.std.proofs.lemmas.Nat.Bits.{bit_at-zero}
+use Rattle.rv_table.specs.Actions.{is_clocked}
+use Rattle.rv_table.specs.Words.{decode}
+use Rattle.rv_isa.specs.Architecture.{ArchState, state_of}
+use Rattle.rv_isa.specs.Effects.{operated}
+use Rattle.need_pass.specs.Tables.{Needs}
+use Rattle.eval_mask.specs.Aftermaths.{Tells, state_after}
+use Rattle.eval_mask.specs.Agreement.{Agree}
+use Rattle.eval_mask.specs.WordMasks.{IsAlikeWord, IsWordMask}
+use Rattle.eval_mask.specs.declared.completing.Aftermath.{Aftermath}
+use Rattle.eval_mask.proofs.Agreeing.{agree_told}
+use Rattle.eval_mask.proofs.Masked.{no_both, not_true}
+
+pub none_alike : (needs : Needs) (i : ℕ) (arch : ArchState) (word : ℕ) → is_clocked (decode word) ≡ true → IsWordMask needs i arch word 0
+none_alike needs i arch word reads = record { bits = λ k l. (λ one. absurd (omega (arith, bit_at-zero k)), λ s. absurd (no_both _ reads s.was_unread)) }
+
+pub reads_alone : (needs : Needs) (i : ℕ) (arch : ArchState) (word other : ℕ) → is_clocked (decode other) ≡ true
+    → IsTrue false ↔ IsAlikeWord needs i arch word other
+reads_alone needs i arch word other reads = (λ t. absurd (not_true t), λ s. absurd (no_both _ reads s.unread))
+
+pub alike_exactly : (needs : Needs) (i : ℕ) (arch : ArchState) (word other : ℕ) (x y : Aftermath) (r : Bool) → is_clocked (decode other) ≡ false
+    → is_clocked (decode word) ≡ false
+    → Tells x (slice_index arch.registers) (state_of arch).memory (operated arch.image (decode other) (state_of arch))
+    → Tells y (slice_index arch.registers) (state_of arch).memory (operated arch.image (decode word) (state_of arch))
+    → IsTrue r ↔ Agree needs (i + 1) (state_after x (slice_index arch.registers) (state_of arch).memory) (state_after y (slice_index arch.registers) (state_of arch).memory)
+    → IsTrue r ↔ IsAlikeWord needs i arch word other
+alike_exactly needs i arch word other x y r u v s t h =
+    let told = agree_told needs (i + 1) (slice_index arch.registers) (state_of arch).memory x y _ _ s t in
+    (λ e. record { unread = u; was_unread = v; agree = told.0 (h.0 e) }, λ k. h.1 (told.1 k.agree))

@@ -1,0 +1,255 @@
+// Whether two aftermaths agree where it is needed.
+ghost use Rattle.std.specs.Prelude.{◌≡◌, ◌↔◌, ◌+◌, ◌^◌, ◌≤◌, IsTrue, Some, slice_index};
+ghost use Rattle.rv_isa.specs.Architecture.{state_of};
+ghost use Rattle.eval_mask.specs.Aftermaths.{memory_after, output_after, registers_after, state_after, written};
+ghost use Rattle.eval_mask.specs.Agreement.{Agree};
+ghost use Rattle.eval_mask.specs.Compared.{SameByte, SameBytes, SameCovered, SameNext, SameRegister, SameRegisters, SameRun, SameWhere, first_of, second_of};
+
+use crate::completing::{Aftermath, Store, Write, register_over};
+use avf_base::End;
+use need_pass::NeedTable;
+use rv_isa::Arch;
+use rv_table::StoreKind;
+
+fn same_word(mask: u32, a: u32, b: u32) -> bool
+    ensures { IsTrue result ↔ SameWhere 32 mask a b }
+{
+    mask & (a ^ b) == 0
+}
+
+fn same_bits(mask: u8, a: u8, b: u8) -> bool
+    ensures { IsTrue result ↔ SameWhere 8 mask a b }
+{
+    mask & (a ^ b) == 0
+}
+
+/// Whether register `r` is the same where it is needed. Register 0 is never needed.
+fn same_register(
+    arch: &Arch<'_>,
+    oldest: &Write,
+    needs: &NeedTable,
+    at: u32,
+    left: &Aftermath,
+    other: &Aftermath,
+    r: u8,
+) -> bool
+    requires { at ≤ needs.now.count }
+    ensures { IsTrue result ↔ SameRegister needs.now at (registers_after left.now (written oldest.now (slice_index arch.now.registers))) (registers_after other.now (written oldest.now (slice_index arch.now.registers))) r }
+{
+    if r == 0 || r > 31 {
+        return true;
+    }
+    let before = register_over(oldest, r, arch.reg(r));
+    same_word(
+        needs.reg_need(r, at),
+        left.register(r, before),
+        other.register(r, before),
+    )
+}
+
+/// Whether all registers are the same where they are needed. Only a register that is written can differ.
+#[tactic(auto, using(crate::proofs::Differences::all_registers))]
+fn same_registers(
+    arch: &Arch<'_>,
+    oldest: &Write,
+    needs: &NeedTable,
+    at: u32,
+    left: &Aftermath,
+    other: &Aftermath,
+) -> bool
+    requires { at ≤ needs.now.count }
+    ensures { IsTrue result ↔ SameRegisters needs.now at (registers_after left.now (written oldest.now (slice_index arch.now.registers))) (registers_after other.now (written oldest.now (slice_index arch.now.registers))) }
+{
+    same_register(arch, oldest, needs, at, left, other, left.first.rd)
+        && same_register(arch, oldest, needs, at, left, other, left.below.write.rd)
+        && same_register(arch, oldest, needs, at, left, other, left.above.write.rd)
+        && same_register(arch, oldest, needs, at, left, other, other.first.rd)
+        && same_register(arch, oldest, needs, at, left, other, other.below.write.rd)
+        && same_register(arch, oldest, needs, at, left, other, other.above.write.rd)
+}
+
+/// Whether the byte at a byte address is the same where it is needed.
+fn same_byte(
+    arch: &Arch<'_>,
+    needs: &NeedTable,
+    at: u32,
+    left: &Aftermath,
+    other: &Aftermath,
+    address: u32,
+) -> bool
+    requires { at ≤ needs.now.count }
+    ensures { IsTrue result ↔ SameByte needs.now at (memory_after left.now (state_of arch.now).memory) (memory_after other.now (state_of arch.now).memory) address }
+{
+    let before = arch.byte(address);
+    same_bits(
+        needs.byte_need(address, at),
+        left.byte(address, before),
+        other.byte(address, before),
+    )
+}
+
+/// The same for two bytes from an address on.
+#[tactic(auto, using(crate::proofs::Differences::two))]
+fn same_two(
+    arch: &Arch<'_>,
+    needs: &NeedTable,
+    at: u32,
+    left: &Aftermath,
+    other: &Aftermath,
+    from: u32,
+) -> bool
+    requires at { at ≤ needs.now.count }
+    requires room { from + 2 ≤ 2 ^ 32 }
+    ensures { IsTrue result ↔ SameRun needs.now at (memory_after left.now (state_of arch.now).memory) (memory_after other.now (state_of arch.now).memory) from 2 }
+{
+    same_byte(arch, needs, at, left, other, from)
+        && same_byte(arch, needs, at, left, other, from + 1)
+}
+
+/// And for four.
+#[tactic(auto, using(crate::proofs::Differences::four))]
+fn same_four(
+    arch: &Arch<'_>,
+    needs: &NeedTable,
+    at: u32,
+    left: &Aftermath,
+    other: &Aftermath,
+    from: u32,
+) -> bool
+    requires at { at ≤ needs.now.count }
+    requires room { from + 4 ≤ 2 ^ 32 }
+    ensures { IsTrue result ↔ SameRun needs.now at (memory_after left.now (state_of arch.now).memory) (memory_after other.now (state_of arch.now).memory) from 4 }
+{
+    same_two(arch, needs, at, left, other, from) && same_two(arch, needs, at, left, other, from + 2)
+}
+
+fn same_stored(
+    arch: &Arch<'_>,
+    needs: &NeedTable,
+    at: u32,
+    left: &Aftermath,
+    other: &Aftermath,
+    store: &Store,
+) -> bool
+    requires { at ≤ needs.now.count }
+    ensures { IsTrue result ↔ SameCovered needs.now at (memory_after left.now (state_of arch.now).memory) (memory_after other.now (state_of arch.now).memory) (Some store.now) }
+{
+    match store.kind {
+        StoreKind::Sb => same_byte(arch, needs, at, left, other, store.address),
+        StoreKind::Sh => same_two(arch, needs, at, left, other, store.address / 2 * 2),
+        StoreKind::Sw => same_four(arch, needs, at, left, other, store.address / 4 * 4),
+    }
+}
+
+/// Whether the bytes of a store are the same where they are needed.
+fn same_covered(
+    arch: &Arch<'_>,
+    needs: &NeedTable,
+    at: u32,
+    left: &Aftermath,
+    other: &Aftermath,
+    store: &Option<Store>,
+) -> bool
+    requires { at ≤ needs.now.count }
+    ensures { IsTrue result ↔ SameCovered needs.now at (memory_after left.now (state_of arch.now).memory) (memory_after other.now (state_of arch.now).memory) store.now }
+{
+    match store {
+        Some(store) => same_stored(arch, needs, at, left, other, store),
+        None => true,
+    }
+}
+
+/// Whether all bytes are the same where they are needed. Only a byte that is stored can differ.
+#[tactic(auto, using(crate::proofs::Differences::all_bytes))]
+fn same_bytes(
+    arch: &Arch<'_>,
+    needs: &NeedTable,
+    at: u32,
+    left: &Aftermath,
+    other: &Aftermath,
+) -> bool
+    requires { at ≤ needs.now.count }
+    ensures { IsTrue result ↔ SameBytes needs.now at (memory_after left.now (state_of arch.now).memory) (memory_after other.now (state_of arch.now).memory) }
+{
+    same_covered(arch, needs, at, left, other, &left.below.store)
+        && same_covered(arch, needs, at, left, other, &left.above.store)
+        && same_covered(arch, needs, at, left, other, &other.below.store)
+        && same_covered(arch, needs, at, left, other, &other.above.store)
+}
+
+fn same_end(a: Option<End>, b: Option<End>) -> bool
+    ensures { IsTrue result ↔ (a ≡ b) }
+{
+    a == b
+}
+
+fn same_put(a: Option<u8>, b: Option<u8>) -> bool
+    ensures { IsTrue result ↔ (a ≡ b) }
+{
+    a == b
+}
+
+/// The first byte that was put.
+fn first_put(left: &Aftermath) -> Option<u8>
+    ensures { result ≡ first_of left.now.below.put left.now.above.put }
+{
+    match left.below.put {
+        Some(byte) => Some(byte),
+        None => left.above.put,
+    }
+}
+
+/// The second.
+fn second_put(left: &Aftermath) -> Option<u8>
+    ensures { result ≡ second_of left.now.below.put left.now.above.put }
+{
+    match left.below.put {
+        Some(_) => left.above.put,
+        None => None,
+    }
+}
+
+/// Whether two aftermaths have put the same bytes, whichever part of them put them.
+#[tactic(auto, using(crate::proofs::Puts::output_exactly))]
+fn same_output(left: &Aftermath, other: &Aftermath) -> bool
+    ensures { IsTrue result ↔ (output_after left.now ≡ output_after other.now) }
+{
+    same_put(first_put(left), first_put(other)) && same_put(second_put(left), second_put(other))
+}
+
+/// Whether two aftermaths that haven't ended go on alike.
+fn same_next(
+    arch: &Arch<'_>,
+    oldest: &Write,
+    needs: &NeedTable,
+    at: u32,
+    left: &Aftermath,
+    other: &Aftermath,
+) -> bool
+    requires { at ≤ needs.now.count }
+    ensures { IsTrue result ↔ SameNext needs.now at (written oldest.now (slice_index arch.now.registers)) (state_of arch.now).memory left.now other.now }
+{
+    left.pc == other.pc
+        && same_registers(arch, oldest, needs, at, left, other)
+        && same_bytes(arch, needs, at, left, other)
+}
+
+/// Whether what two aftermaths leave of the registers, with a write under theirs, and memory of `arch` agrees, for all that is needed
+/// before instruction `at`.
+#[tactic(auto, using(crate::proofs::Agreeing::agreement))]
+pub fn agree(
+    arch: &Arch<'_>,
+    oldest: &Write,
+    needs: &NeedTable,
+    at: u32,
+    left: &Aftermath,
+    other: &Aftermath,
+) -> bool
+    requires { at ≤ needs.now.count }
+    ensures { IsTrue result ↔ Agree needs.now at (state_after left.now (written oldest.now (slice_index arch.now.registers)) (state_of arch.now).memory) (state_after other.now (written oldest.now (slice_index arch.now.registers)) (state_of arch.now).memory) }
+{
+    if !same_output(left, other) || !same_end(left.end, other.end) {
+        return false;
+    }
+    left.end.is_some() || same_next(arch, oldest, needs, at, left, other)
+}

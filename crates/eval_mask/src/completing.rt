@@ -1,0 +1,290 @@
+// What the latches leave once they are completed, told by what they change.
+ghost use Rattle.std.specs.Prelude.{◌≡◌, ℕ, ◌<◌};
+ghost use Rattle.rv_table.specs.Accesses as accesses;
+ghost use Rattle.rv_table.specs.Actions.{next_address};
+ghost use Rattle.rv_table.specs.Effects as effects;
+ghost use Rattle.rv_isa.specs.Architecture.{state_of};
+ghost use Rattle.rv_isa.specs.Instruction as step;
+ghost use Rattle.rv_isa.specs.Instruction.{action_in};
+ghost use Rattle.pipe_latch.specs.Forwarding as forwarding;
+ghost use Rattle.pipe_latch.specs.LatchedActions.{action_of};
+ghost use Rattle.pipe_latch.specs.Latches.{op_of_latch};
+ghost use Rattle.eval_mask.specs.Aftermaths as spec;
+ghost use Rattle.eval_mask.specs.Aftermaths.{memory_after, registers_after, stored_over, written};
+
+use avf_base::End;
+use elf_load::Image;
+use pipe_latch::{ExMem, Forwarded, IdEx, MemWb, execute, operand};
+use rv_isa::Arch;
+use rv_table::{Action, LoadKind, StoreKind, loaded, with_counter};
+
+/// A write of a register; register 0 is none.
+#[derive(Clone, Copy, PartialEq, Eq, Debug)]
+pub struct Write {
+    pub rd: u8,
+    pub value: u32,
+}
+
+/// A store of the low bytes of a value into the aligned block of its size that holds a byte address.
+#[derive(Clone, Copy, PartialEq, Eq, Debug)]
+pub struct Store {
+    pub kind: StoreKind,
+    pub address: u32,
+    pub value: u32,
+}
+
+/// What one action changes.
+#[derive(Clone, Copy, PartialEq, Eq, Debug)]
+pub struct Change {
+    pub write: Write,
+    pub store: Option<Store>,
+    /// The byte that it puts.
+    pub put: Option<u8>,
+    pub end: Option<End>,
+}
+
+/// What completed instructions leave.
+#[derive(Clone, Copy, PartialEq, Eq, Debug)]
+pub struct Aftermath {
+    /// The write of MEM/WB, under the others.
+    pub first: Write,
+    /// What EX/MEM changes.
+    pub below: Change,
+    /// What ID/EX changes over it.
+    pub above: Change,
+    /// The word address that comes next.
+    pub pc: u32,
+    pub end: Option<End>,
+}
+
+/// No write.
+pub const NO_WRITE: Write = Write { rd: 0, value: 0 };
+
+/// No change.
+pub const NO_CHANGE: Change = Change {
+    write: NO_WRITE,
+    store: None,
+    put: None,
+    end: None,
+};
+
+/// The value of register `r` after a write, from the value under it.
+pub fn register_over(write: &Write, r: u8, under: u32) -> u32
+    requires { 0 < r }
+    ensures { (f : ℕ → ℕ) → f r ≡ under → result ≡ written write.now f r }
+{
+    if r == write.rd { write.value } else { under }
+}
+
+/// The byte at `address` after a store, from the byte under it.
+#[tactic(auto, unfolding(rv_table::specs::Accesses::stored, rv_table::specs::Accesses::accesses, rv_table::specs::Accesses::byte_of))]
+fn byte_over(store: &Option<Store>, address: u32, under: u8) -> u8
+    ensures { (f : ℕ → ℕ) → f address ≡ under → result ≡ stored_over store.now f address }
+{
+    match store {
+        Some(store) => byte_stored(store, address, under),
+        None => under,
+    }
+}
+
+#[tactic(auto, unfolding(rv_table::specs::Accesses::stored, rv_table::specs::Accesses::accesses, rv_table::specs::Accesses::byte_of))]
+fn byte_stored(store: &Store, address: u32, under: u8) -> u8
+    ensures { (f : ℕ → ℕ) → f address ≡ under → result ≡ accesses.stored store.now.kind store.now.address store.now.value f address }
+{
+    let size = store.kind.size();
+    if address / size == store.address / size {
+        byte_of(store.value, address % size)
+    } else {
+        under
+    }
+}
+
+/// Byte `n` of a word, 0 to 3.
+#[tactic(auto, unfolding(rv_table::specs::Accesses::byte_of))]
+fn byte_of(word: u32, n: u32) -> u8
+    requires { n < 4 }
+    ensures { result ≡ accesses.byte_of word n }
+{
+    ((word >> (8 * n)) % 256) as u8
+}
+
+impl Aftermath {
+    ghost use Rattle.std.specs.Prelude.{ℕ, ◌<◌};
+
+    /// The value of register `r`, 1 to 31, from the value that it had before.
+    pub fn register(&self, r: u8, before: u32) -> u32
+        requires { 0 < r }
+        ensures { (f : ℕ → ℕ) → f r ≡ before → result ≡ registers_after self.now f r }
+    {
+        let first = register_over(&self.first, r, before);
+        let below = register_over(&self.below.write, r, first);
+        register_over(&self.above.write, r, below)
+    }
+
+    /// The byte at a byte address, from the byte that was there before.
+    pub fn byte(&self, address: u32, before: u8) -> u8
+        ensures { (f : ℕ → ℕ) → f address ≡ before → result ≡ memory_after self.now f address }
+    {
+        byte_over(
+            &self.above.store,
+            address,
+            byte_over(&self.below.store, address, before),
+        )
+    }
+}
+
+/// The value that an action loads at a byte address, over the memory of `arch` after a store.
+fn load(arch: &Arch<'_>, under: &Option<Store>, kind: LoadKind, address: u32) -> u32
+    ensures { result ≡ accesses.loaded kind address (stored_over under.now (state_of arch.now).memory) }
+{
+    let from = address / 4 * 4;
+    let word = u32::from_le_bytes([
+        byte_over(under, from, arch.byte(from)),
+        byte_over(under, from + 1, arch.byte(from + 1)),
+        byte_over(under, from + 2, arch.byte(from + 2)),
+        byte_over(under, from + 3, arch.byte(from + 3)),
+    ]);
+    loaded(kind, address, word)
+}
+
+/// The value that an action writes into its register. A load outside RAM gives 0.
+fn given(arch: &Arch<'_>, under: &Option<Store>, action: &Action) -> u32
+    ensures { result ≡ step.given arch.now.image action.now (stored_over under.now (state_of arch.now).memory) }
+{
+    match *action {
+        Action::Writes { value, .. } => value,
+        Action::Loads { kind, address, .. } if arch.image().word_in_ram(address / 4) => {
+            load(arch, under, kind, address)
+        }
+        _ => 0,
+    }
+}
+
+fn written_register(action: &Action) -> u8
+    ensures { result ≡ effects.written_register action.now }
+{
+    match *action {
+        Action::Writes { rd, .. } | Action::Loads { rd, .. } => rd,
+        _ => 0,
+    }
+}
+
+/// The store that an action makes; one outside RAM is dropped.
+fn store_by(image: &Image, action: &Action) -> Option<Store>
+    ensures { result ≡ spec.store_by image.now action.now }
+{
+    match *action {
+        Action::Stores {
+            kind,
+            address,
+            value,
+        } if image.word_in_ram(address / 4) => Some(Store {
+            kind,
+            address,
+            value,
+        }),
+        _ => None,
+    }
+}
+
+fn byte_put(action: &Action) -> Option<u8>
+    ensures { result ≡ effects.byte_put action.now }
+{
+    match *action {
+        Action::Puts(value) => Some((value % 256) as u8),
+        _ => None,
+    }
+}
+
+/// How an action ends the run.
+pub fn end_of(action: &Action) -> Option<End>
+    ensures { result ≡ step.end_of action.now }
+{
+    match *action {
+        Action::Exits(value) => Some(End::Exit((value % 256) as u8)),
+        Action::Traps(cause) => Some(End::Trap(cause)),
+        _ => None,
+    }
+}
+
+/// What an action changes, over the memory of `arch` after a store.
+#[tactic(auto, unfolding(crate::specs::Aftermaths::change_of))]
+fn change_of(arch: &Arch<'_>, under: &Option<Store>, action: &Action) -> Change
+    ensures { result ≡ spec.change_of arch.now.image action.now (stored_over under.now (state_of arch.now).memory) }
+{
+    Change {
+        write: Write {
+            rd: written_register(action),
+            value: given(arch, under, action),
+        },
+        store: store_by(arch.image(), action),
+        put: byte_put(action),
+        end: end_of(action),
+    }
+}
+
+/// An operand that ID/EX holds, with what completing EX/MEM writes where it must be waited for.
+fn operand_held(rs: u8, held: u32, m: &ExMem, w: &MemWb, awaited: u32) -> u32
+    ensures { result ≡ forwarding.settled (forwarding.operand (action_of m.now) w.now rs held) awaited }
+{
+    match operand(rs, held, m, w) {
+        Forwarded::Value(value) => value,
+        Forwarded::Wait => awaited,
+    }
+}
+
+/// What the instruction in ID/EX does with the operands a and b.
+#[tactic(auto, using(crate::proofs::Completed::executed_action))]
+fn decoded_action(d: &IdEx, a: u32, b: u32, image: &Image) -> Action
+    ensures { result ≡ action_in image.now (op_of_latch d.now) d.now.pc a b }
+{
+    execute(d, a, b, image).latch.action()
+}
+
+/// The word address that comes after the instruction in ID/EX.
+#[tactic(auto, unfolding(pipe_latch::specs::Execution::next_of))]
+fn decoded_next(d: &IdEx, a: u32, b: u32, image: &Image) -> u32
+    ensures { result ≡ next_address (op_of_latch d.now) d.now.pc a b }
+{
+    execute(d, a, b, image).next
+}
+
+/// What MEM/WB, EX/MEM and a reached ID/EX leave once they are completed over the memory of `arch`. `npc` is the word address that
+/// comes next and `issued` the number of instructions before it.
+#[tactic(auto, unfolding(crate::specs::Aftermaths::aftermath_of, crate::specs::Aftermaths::change_of))]
+pub fn completed(
+    w: &MemWb,
+    m: &ExMem,
+    d: &IdEx,
+    arch: &Arch<'_>,
+    npc: u32,
+    issued: u32,
+) -> Aftermath
+    ensures { result ≡ spec.aftermath_of arch.now.image w.now m.now d.now (state_of arch.now).memory npc issued }
+{
+    let first = Write {
+        rd: w.rd,
+        value: w.value,
+    };
+    let below = change_of(arch, &None, &m.action());
+    if !(d.valid && below.end.is_none() && d.pc == npc) {
+        return Aftermath {
+            first,
+            below,
+            above: NO_CHANGE,
+            pc: npc,
+            end: below.end,
+        };
+    }
+    let a = operand_held(d.rs1, d.a, m, w, below.write.value);
+    let held = operand_held(d.rs2, d.b, m, w, below.write.value);
+    let b = with_counter(&d.instruction(), 0, issued, held);
+    let action = decoded_action(d, a, b, arch.image());
+    Aftermath {
+        first,
+        below,
+        above: change_of(arch, &below.store, &action),
+        pc: decoded_next(d, a, b, arch.image()),
+        end: end_of(&action),
+    }
+}

@@ -1,0 +1,18 @@
+// Which bits of the pipeline's latches and of an instruction word are logically masked.
+//
+// - completing: what the latches leave once they are completed, told by what they change;
+// - compare: whether two such aftermaths agree where it is needed;
+// - latches: the masks of the latches;
+// - words: the mask of an instruction word.
+#![tactic(auto)]
+
+mod compare;
+mod completing;
+mod latches;
+mod words;
+
+pub use latches::{LatchMask, latch_bits};
+pub use words::word_bits;
+
+#[cfg(test)]
+mod tests;
