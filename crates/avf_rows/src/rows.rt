@@ -28,17 +28,17 @@ pub struct Given {
     pub err: PlainSink,
 }
 
-// The words over a shelf on which `a.elf` and `a.s` hold these bytes.
+// The words over a shelf on which this name holds the file.
 pub fn call<L: Ledger, M: Ledger>(
     alloc: Global,
     words: &[String],
+    name: &str,
     file: &[u8],
     steps: &mut Steps<L>,
     applies: &mut Steps<M>,
 ) -> Result<Given, OutOfMemory> {
     let mut shelf = PlainShelf::new(alloc);
-    shelf.put("a.elf", file)?;
-    shelf.put("a.s", file)?;
+    shelf.put(name, file)?;
     let mut out = PlainSink::new(alloc, 4096)?;
     let mut err = PlainSink::new(alloc, 4096)?;
     let status = run_tool(alloc, words, &mut shelf, &mut out, &mut err, steps, applies);
@@ -57,7 +57,7 @@ pub fn row<R: Abort + AllocGlobal, L: Ledger, M: Ledger>(
 ) {
     let alloc = rt.alloc();
     let words = words(alloc, line).expect(rt, "ample memory");
-    let given = call(alloc, &words, file, steps, applies).expect(rt, "ample memory");
+    let given = call(alloc, &words, "a.elf", file, steps, applies).expect(rt, "ample memory");
     assert_eq!(rt; given.status, status, "{line}: {text}");
     let (told, silent) = if status == 0 {
         (given.out.kept(), given.err.kept())

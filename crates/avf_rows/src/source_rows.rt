@@ -1,7 +1,7 @@
 // Rows of `asm`: sources, and the images or the faults that they give.
 ghost use Rattle.std.specs.Prelude.{◌≡◌, ◌<◌};
 
-use crate::rows::{call, row, words};
+use crate::rows::{Given, call, row, words};
 use avf_base::{Steps, counter};
 use std::alloc::{AllocError, Global};
 use std::marker::Brand;
@@ -56,6 +56,18 @@ ret\n\
 .data\n\
 table: .space 256\n";
 
+// What a call of `asm` on this source gives.
+fn asm<R: Abort + AllocGlobal, L: Ledger, M: Ledger>(
+    rt: &R,
+    steps: &mut Steps<L>,
+    applies: &mut Steps<M>,
+    source: &[u8],
+) -> Given {
+    let alloc = rt.alloc();
+    let words = words(alloc, "asm a.s").expect(rt, "ample memory");
+    call(alloc, &words, "a.s", source, steps, applies).expect(rt, "ample memory")
+}
+
 // What `asm` writes for a source without a fault.
 fn assembled<R: Abort + AllocGlobal, L: Ledger, M: Ledger>(
     rt: &R,
@@ -63,12 +75,10 @@ fn assembled<R: Abort + AllocGlobal, L: Ledger, M: Ledger>(
     applies: &mut Steps<M>,
     source: &[u8],
 ) -> Vec<u8> {
-    let alloc = rt.alloc();
-    let words = words(alloc, "asm a.s").expect(rt, "ample memory");
-    let given = call(alloc, &words, source, steps, applies).expect(rt, "ample memory");
+    let given = asm(rt, steps, applies, source);
     assert_eq!(rt; given.status, 0);
     assert!(rt; given.err.kept().is_empty());
-    Vec::from_slice(alloc, given.out.kept()).expect(rt, "ample memory")
+    Vec::from_slice(rt.alloc(), given.out.kept()).expect(rt, "ample memory")
 }
 
 // The image of a program, and its run.
@@ -100,7 +110,10 @@ fn refused<R: Abort + AllocGlobal, L: Ledger, M: Ledger>(
     told: &str,
 ) {
     let line = format!(in rt.alloc(); "avf: bad source {told}\n").expect(rt, "ample memory");
-    row(rt, steps, applies, "asm a.s", source, 9, line.as_str());
+    let given = asm(rt, steps, applies, source);
+    assert_eq!(rt; given.status, 9, "{told}");
+    assert!(rt; given.err.kept() == line.as_bytes(), "{told}");
+    assert!(rt; given.out.kept().is_empty(), "{told}");
 }
 
 // Rows of sources with a fault.

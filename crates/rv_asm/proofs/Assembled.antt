@@ -1,5 +1,6 @@
 -- What a source means, by the steps in which it is assembled.
-use Rattle.std.proofs.Common.{◌≡◌, ℕ, ◌+◌, ◌*◌, ◌%◌, ◌^◌, ◌<◌, ◌≤◌, ◌||◌, ◌&&◌, not, Bool, true, false, cond, eqb, ltb, leb, List, Option, Some, None, length, refl, ap, sym, ◌∙◌, arith}
+use Rattle.std.proofs.Common.{◌≡◌, ℕ, ◌+◌, ◌*◌, ◌%◌, ◌^◌, ◌<◌, ◌≤◌, ◌||◌, ◌&&◌, not, Bool, true, false}
+use Rattle.std.proofs.Common.{cond, eqb, ltb, leb, List, Option, Some, None, length, refl, ap, sym, ◌∙◌, arith}
 use Rattle.std.specs.Prelude.{option_map}
 use Rattle.std.specs.Option.{option_or}
 use Rattle.std.specs.List.{AllByRecursion, flat_map}
@@ -28,7 +29,8 @@ pub too_long : (source : List ℕ) → SOURCE_ROOM < length source → option_ma
 unfolding fault_in
 too_long source h = rw (lt-ltb SOURCE_ROOM (length source) h) refl
 
-pub on_line : (source : List ℕ) (line : ℕ) (fault : Fault) → length source ≤ SOURCE_ROOM → Some (line, fault) ≡ first_fault (place_of source) start 1 (lines source)
+pub on_line : (source : List ℕ) (line : ℕ) (fault : Fault) → length source ≤ SOURCE_ROOM
+    → Some (line, fault) ≡ first_fault (place_of source) start 1 (lines source)
     → option_map numbered (fault_in source) ≡ Some (line, number_of fault)
 unfolding fault_in
 on_line source line fault h f = rw (le-ltb SOURCE_ROOM (length source) h, sym f) refl
@@ -71,7 +73,8 @@ entry_well source none = by_place (place_of source start_name) refl
     by_place : (o : Option Place) → place_of source start_name ≡ o → IsEntry (address_or TEXT_BASE o) (end_of start (lines source)).text_size
     by_place None e = record { aligned = refl; above = omega arith; within = omega arith }
     by_place (Some own) e =
-        let well : StartsWell own (end_of start (lines source)) = starts_well (place_of source) start 1 (lines source) own (sym none) e (placed source own e) in
+        let well : StartsWell own (end_of start (lines source)) = starts_well (place_of source) start 1 (lines source) own (sym none) e (placed source own
+        e) in
         record { aligned = well.aligned; above = well.above; within = well.within }
 
 -- a whole word of the text part stands at an entry that isn't its end
@@ -99,7 +102,8 @@ finished source e t d items p q r same loaded coded well =
         loads = loads;
         refusal = λ ram fits.
             loads.refusal ram fits
-            ∙ ap (λ t. cond {A = Option ℕ} t None (Some 12)) (begins (entry source) (length (text_part source)) (length (program source)) (length-code (program source)) well)
+            ∙ ap (λ t. cond {A = Option ℕ} t None (Some 12)) (begins (entry source) (length (text_part source)) (length (program source)) (length-code
+            (program source)) well)
             ∙ turned (eqb (entry source) (TEXT_BASE + length (text_part source)));
       },
     )

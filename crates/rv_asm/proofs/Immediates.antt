@@ -1,5 +1,6 @@
 -- With its immediate, each instruction that is put has a word.
-use Rattle.std.proofs.Common.{◌≡◌, ℕ, zero, suc, ◌+◌, ◌-◌, ◌*◌, ◌/◌, ◌%◌, ◌^◌, ◌<◌, ◌≤◌, ◌&&◌, ◌||◌, not, Bool, true, false, cond, eqb, ltb, leb, refl, ap, sym, ◌∙◌, arith, lit<, lit≤, ℤ, pos}
+use Rattle.std.proofs.Common.{◌≡◌, ℕ, zero, suc, ◌+◌, ◌-◌, ◌*◌, ◌/◌, ◌%◌, ◌^◌, ◌<◌, ◌≤◌, ◌&&◌, ◌||◌, not}
+use Rattle.std.proofs.Common.{Bool, true, false, cond, eqb, ltb, leb, refl, ap, sym, ◌∙◌, arith, lit<, lit≤, ℤ, pos}
 use Rattle.std.specs.Prelude.{IsTrue, negsuc}
 use Rattle.std.specs.Int.{cast_unsigned, w64}
 use Rattle.std.proofs.lemmas.Bool.{and_from, and_parts, false≢true}
@@ -110,8 +111,10 @@ label_fits op origin goal r h = by_form (form_of op.code) refl r.taking h
   where
     by_form : (form : Form) → form_of op.code ≡ form → takes_offset form ≡ true → reaches (reach_of form) origin goal ≡ true
         → IsTrue (well_formed (with_immediate op (offset origin goal)))
-    by_form J e t g = formed J op (offset origin goal) r.formed e (λ f. fits_j op (offset origin goal) f (even JUMP_REACH origin goal (lit≤ tt) g) (signed_j origin goal g))
-    by_form B e t g = formed B op (offset origin goal) r.formed e (λ f. fits_b op (offset origin goal) f (even BRANCH_REACH origin goal (lit≤ tt) g) (signed_b origin goal g))
+    by_form J e t g = formed J op (offset origin goal) r.formed e (λ f. fits_j op (offset origin goal) f (even JUMP_REACH origin goal (lit≤ tt) g)
+        (signed_j origin goal g))
+    by_form B e t g = formed B op (offset origin goal) r.formed e (λ f. fits_b op (offset origin goal) f (even BRANCH_REACH origin goal (lit≤ tt) g)
+        (signed_b origin goal g))
     by_form _ e t g = absurd (false≢true t)
 
 -- The instructions that put a number into a register

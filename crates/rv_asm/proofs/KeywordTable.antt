@@ -11,23 +11,28 @@ use Rattle.rv_asm.specs.declared.keyword.Keyword.{Keyword}
 use Rattle.rv_asm.specs.declared.keyword.NamedKeyword.{NamedKeyword}
 
 by_test : (t : Bool) (k : NamedKeyword) (all : Option (List ℕ × Keyword)) (rest : Option NamedKeyword)
-    → option_map (λ k. k.1) all ≡ option_map (λ k. k.keyword) rest → option_map (λ k. k.1) (cond t (Some (shown k)) all) ≡ option_map (λ k. k.keyword) (cond t (Some k) rest)
+    → option_map (λ k. k.1) all ≡ option_map (λ k. k.keyword) rest → option_map (λ k. k.1) (cond t (Some (shown k)) all) ≡ option_map (λ k. k.keyword)
+    (cond t (Some k) rest)
 by_test true k all rest h = refl
 by_test false k all rest h = h
 
-found : (word : List ℕ) (ks : List NamedKeyword) → option_map (λ k. k.1) (find (λ k. bytes_eq word k.0) (map shown ks)) ≡ option_map (λ k. k.keyword) (find (λ k. bytes_eq word k.name.now) ks)
+found : (word : List ℕ) (ks : List NamedKeyword) → option_map (λ k. k.1) (find (λ k. bytes_eq word k.0) (map shown ks)) ≡ option_map (λ k. k.keyword) (find
+    (λ k. bytes_eq word k.name.now) ks)
 found word [] = refl
 found word (k ∷ ks) = by_test (bytes_eq word k.name.now) k _ _ (found word ks)
 
-pub further-found : (word : List ℕ) (ks : List NamedKeyword) → map shown ks ≡ further → further_named word ≡ option_map (λ k. k.keyword) (find (λ k. bytes_eq word k.name.now) ks)
+pub further-found : (word : List ℕ) (ks : List NamedKeyword) → map shown ks ≡ further
+    → further_named word ≡ option_map (λ k. k.keyword) (find (λ k. bytes_eq word k.name.now) ks)
 unfolding further_named
-further-found word ks e = ap (λ (table : List (List ℕ × Keyword)). option_map (λ (k : List ℕ × Keyword). k.1) (find (λ k. bytes_eq word k.0) table)) (sym e) ∙ found word ks
+further-found word ks e = ap (λ (table : List (List ℕ × Keyword)). option_map (λ (k : List ℕ × Keyword). k.1) (find (λ k. bytes_eq word k.0) table)) (sym
+    e) ∙ found word ks
 
 pub further-one : (word : List ℕ) (ks : List NamedKeyword) (k : NamedKeyword) → map shown ks ≡ further → Some k ≡ find (λ k. bytes_eq word k.name.now) ks
     → Some k.keyword ≡ further_named word
 further-one word ks k e h = sym (further-found word ks e ∙ ap (option_map (λ (k : NamedKeyword). k.keyword)) (sym h))
 
-pub further-none : (word : List ℕ) (ks : List NamedKeyword) → map shown ks ≡ further → ◌≡◌ {A = Option NamedKeyword} None (find (λ k. bytes_eq word k.name.now) ks)
+pub further-none : (word : List ℕ) (ks : List NamedKeyword) → map shown ks ≡ further
+    → ◌≡◌ {A = Option NamedKeyword} None (find (λ k. bytes_eq word k.name.now) ks)
     → ◌≡◌ {A = Option Keyword} None (further_named word)
 further-none word ks e h = sym (further-found word ks e ∙ ap (option_map (λ (k : NamedKeyword). k.keyword)) (sym h))
 
@@ -39,7 +44,8 @@ passes p good (y ∷ ys) x all h = by_first (p y) refl h (λ e. passes p good ys
     parts : (good y ≡ true) × (list_all good ys ≡ true)
     parts = and_parts _ _ all
 
-    by_first : (t : Bool) → p y ≡ t → cond t (Some y) (find p ys) ≡ Some x → (find p ys ≡ Some x → (p x ≡ true) × (good x ≡ true)) → (p x ≡ true) × (good x ≡ true)
+    by_first : (t : Bool) → p y ≡ t → cond t (Some y) (find p ys) ≡ Some x → (find p ys ≡ Some x → (p x ≡ true) × (good x ≡ true))
+        → (p x ≡ true) × (good x ≡ true)
     by_first true f e ih = let same : y ≡ x = cc in (rw (sym same) f, rw (sym same) parts.0)
     by_first false f e ih = ih e
 
@@ -66,7 +72,8 @@ row_known word r h =
 all_known : list_all (λ (k : List ℕ × Keyword). is_known k.1) further ≡ true
 all_known = refl
 
-known_in : (word : List ℕ) (o : Option (List ℕ × Keyword)) (k : Keyword) → find (λ k. bytes_eq word k.0) further ≡ o → option_map (λ k. k.1) o ≡ Some k → is_known k ≡ true
+known_in : (word : List ℕ) (o : Option (List ℕ × Keyword)) (k : Keyword) → find (λ k. bytes_eq word k.0) further ≡ o → option_map (λ k. k.1) o ≡ Some k
+    → is_known k ≡ true
 known_in word None k e h = absurd cc
 known_in word (Some one) k e h =
     let same : one.1 ≡ k = cc in

@@ -1,5 +1,6 @@
 -- Laying out a source line by line.
-use Rattle.std.proofs.Common.{◌≡◌, ℕ, ◌+◌, Bool, true, false, cond, List, [], ◌∷◌, ◌++◌, Option, Some, None, Result, Ok, Err, length, arith, refl, ap, sym, ◌∙◌, inl, inr}
+use Rattle.std.proofs.Common.{◌≡◌, ℕ, ◌+◌, Bool, true, false, cond, List, [], ◌∷◌, ◌++◌, Option}
+use Rattle.std.proofs.Common.{Some, None, Result, Ok, Err, length, arith, refl, ap, sym, ◌∙◌, inl, inr}
 use Rattle.std.specs.Prelude.{bytes_eq, if◌then◌else◌}
 use Rattle.std.specs.Bool.{one_answer}
 use Rattle.std.specs.Option.{option_or}
@@ -30,7 +31,8 @@ first_of-append q (x ∷ xs) ys = by_first (bytes_eq q x.0) (first_of-append q x
     by_first false h = h
 
 -- a line's definitions come before those of the lines behind it
-pub step : (labels labels' : List ℕ → Option Place) (c c' : Cursor) (k : ℕ) (bytes : List ℕ) (parts rest : List (List ℕ)) (line : Result Line Fault) (all : List ℕ → Option Place)
+pub step : (labels labels' : List ℕ → Option Place) (c c' : Cursor) (k : ℕ) (bytes : List ℕ) (parts rest : List (List ℕ)) (line : Result Line Fault) (all :
+    List ℕ → Option Place)
     → parts ≡ bytes ∷ rest → line ≡ line_of c.in_data bytes → c' ≡ passed c line
     → ((q : List ℕ) → labels' q ≡ option_or (labels q) (first_of q (defined c k line)))
     → ((q : List ℕ) → option_or (labels q) (first_of q (definitions c k parts)) ≡ all q)

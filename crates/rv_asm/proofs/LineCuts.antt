@@ -1,5 +1,6 @@
 -- The lines of a text, cut off one after the other.
-use Rattle.std.proofs.Common.{◌≡◌, ℕ, zero, suc, ◌+◌, ◌-◌, ◌<◌, ◌≤◌, Bool, true, false, not, cond, eqb, List, [], ◌∷◌, length, take, drop, refl, ap, sym, ◌∙◌, arith, inl, inr}
+use Rattle.std.proofs.Common.{◌≡◌, ℕ, zero, suc, ◌+◌, ◌-◌, ◌<◌, ◌≤◌, Bool, true, false, not, cond}
+use Rattle.std.proofs.Common.{eqb, List, [], ◌∷◌, length, take, drop, refl, ap, sym, ◌∙◌, arith, inl, inr}
 use Rattle.std.specs.List.{position_or_len, slice_split, onto_first, before_first, after_first}
 use Rattle.std.proofs.lemmas.Bool.{cases_Bool}
 use Rattle.std.proofs.lemmas.List.{take_rest}
@@ -25,7 +26,10 @@ lines-cut text n e h =
     let some = length-slice_split (λ b. eqb b LINE_FEED) (after_first (λ b. eqb b LINE_FEED) text) in
     rw (take_rest text (n + 1), e)
     (ap ended (slice_split_first (λ b. eqb b LINE_FEED) text 0 within)
-    ∙ ended-more (before_first (λ b. eqb b LINE_FEED) text) (slice_split (λ b. eqb b LINE_FEED) (after_first (λ b. eqb b LINE_FEED) text)) (omega (arith, some)))
+    ∙ ended-more (before_first (λ b. eqb b LINE_FEED) text) (slice_split (λ b. eqb b LINE_FEED) (after_first (λ b. eqb b LINE_FEED) text)) (omega (
+      arith,
+      some,
+    )))
 
 -- a text with no line feed is one line
 one_part : (text : List ℕ) → length text ≤ position_or_len (λ b. eqb b LINE_FEED) text → slice_split (λ b. eqb b LINE_FEED) text ≡ text ∷ []

@@ -20,7 +20,8 @@ statement_of-mark in_data _ f e = refl
 
 pub ruleset nothing = (statement_of-none, statement_of-mark)
 
-pub statement_of-word : (in_data : Bool) (ts rest : List Token) (bytes : List ℕ) → first_word ts ≡ Some (bytes, rest) → statement_of in_data ts ≡ spoken in_data bytes rest
+pub statement_of-word : (in_data : Bool) (ts rest : List Token) (bytes : List ℕ) → first_word ts ≡ Some (bytes, rest)
+    → statement_of in_data ts ≡ spoken in_data bytes rest
 unfolding statement_of first_word
 statement_of-word in_data (Word word ∷ ts) rest bytes f =
     let same : (word, ts) ≡ (bytes, rest) = cc in
@@ -39,7 +40,8 @@ before_colon-chain _ = refl
 
 pub ruleset colons = before_colon-chain
 
-pub labelled-colon : (in_data : Bool) (ts rest : List Token) (bytes : List ℕ) → before_colon ts ≡ Some (bytes, rest) → labelled in_data ts ≡ with_label in_data bytes rest
+pub labelled-colon : (in_data : Bool) (ts rest : List Token) (bytes : List ℕ) → before_colon ts ≡ Some (bytes, rest)
+    → labelled in_data ts ≡ with_label in_data bytes rest
 unfolding labelled before_colon
 labelled-colon in_data (Word word ∷ Colon ∷ ts) rest bytes f =
     let same : (word, ts) ≡ (bytes, rest) = cc in

@@ -1,5 +1,6 @@
 -- Putting a source line by line.
-use Rattle.std.proofs.Common.{◌≡◌, ℕ, ◌+◌, true, List, [], ◌∷◌, ◌++◌, Option, Some, None, Result, Ok, Err, length, length-append, append_assoc, refl, ap, sym, ◌∙◌, arith}
+use Rattle.std.proofs.Common.{◌≡◌, ℕ, ◌+◌, true, List, [], ◌∷◌, ◌++◌, Option, Some, None}
+use Rattle.std.proofs.Common.{Result, Ok, Err, length, length-append, append_assoc, refl, ap, sym, ◌∙◌, arith}
 use Rattle.std.specs.Prelude.{IfOk, option_map}
 use Rattle.std.specs.Option.{option_or}
 use Rattle.std.specs.List.{AllByRecursion, flat_map}
@@ -91,7 +92,8 @@ all-append (x ∷ xs) ys p q = (p.0, all-append xs ys p.1 q)
 
 pub step_coded : (places : List ℕ → Option Place) (c c' : Cursor) (bytes : List ℕ) (all : List Op) (parts rest : List (List ℕ)) (line : Result Line Fault)
     → parts ≡ bytes ∷ rest → line ≡ line_of c.in_data bytes → c' ≡ passed c line → AllByRecursion IsCoded (line_ops places c line)
-    → (AllByRecursion IsCoded (ops_in places c parts) → AllByRecursion IsCoded all) → AllByRecursion IsCoded (ops_in places c' rest) → AllByRecursion IsCoded all
+    → (AllByRecursion IsCoded (ops_in places c parts) → AllByRecursion IsCoded all) → AllByRecursion IsCoded (ops_in places c' rest)
+    → AllByRecursion IsCoded all
 unfolding ops_in
 step_coded places c c' bytes all parts rest line cut said further here so_far left =
     let opened : ops_in places c parts ≡ line_ops places c line ++ ops_in places c' rest = rw (cut, further, said) refl in

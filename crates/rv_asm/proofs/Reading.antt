@@ -1,5 +1,6 @@
 -- Tokens as they are read from the front of a text.
-use Rattle.std.proofs.Common.{◌⊎◌, ◌≡◌, ℕ, zero, suc, ◌+◌, ◌<◌, ◌≤◌, ◌&&◌, ◌||◌, not, Bool, true, false, cond, eqb, List, [], ◌∷◌, Option, Some, None, length, get_or, ◌-◌, take, drop, length-drop, ap, refl, sym, ◌∙◌, arith, inl, inr}
+use Rattle.std.proofs.Common.{◌⊎◌, ◌≡◌, ℕ, zero, suc, ◌+◌, ◌<◌, ◌≤◌, ◌&&◌, ◌||◌, not, Bool, true, false, cond, eqb, List}
+use Rattle.std.proofs.Common.{[], ◌∷◌, Option, Some, None, length, get_or, ◌-◌, take, drop, length-drop, ap, refl, sym, ◌∙◌, arith, inl, inr}
 use Rattle.std.specs.Prelude.{option_map, IsTrue}
 use Rattle.std.specs.List.{prefix_len}
 use Rattle.std.proofs.lemmas.Bool.{cases_Bool, false≢true, and_parts, and_cases, both_ways, not-true, not-false, or_cases, and_from, ne_eqb, eq-eqb, eqb-true}
@@ -147,7 +148,8 @@ unfolding behind
 behind_word mark bytes ts = refl
 
 -- the tokens of a text that begins with no blank: a mark, or a word
-front : (b : ℕ) (bs : List ℕ) → is_blank b ≡ false → ((is_mark b ≡ true) × (tokens (b ∷ bs) ≡ mark_of b ∷ tokens bs)) ⊎ ((is_mark b ≡ false) × (begins_word (b ∷ bs) ≡ true))
+front : (b : ℕ) (bs : List ℕ) → is_blank b ≡ false → ((is_mark b ≡ true) × (tokens (b ∷ bs) ≡ mark_of b ∷ tokens bs)) ⊎ ((is_mark b ≡ false) × (begins_word
+    (b ∷ bs) ≡ true))
 front b bs plain = elim (cases_Bool (is_mark b)) [
   | inl m ↦ inl (m, mark b bs plain m)
   | inr m ↦ inr (m, and_from _ _ (not_from_false _ plain) (not_from_false _ m))
@@ -202,7 +204,8 @@ pub mark_at : (mark : ℕ) (text t : List ℕ) → is_mark mark ≡ true → t �
 mark_at mark text [] p e h g = absurd (omega arith)
 mark_at mark text (first ∷ rest) p e h g = rw (rest_all 1 (first ∷ rest)) (sym (mark_read mark text rest p (sym e ∙ ap (λ b. b ∷ rest) g)))
 
-pub no_mark_at : (mark : ℕ) (text t : List ℕ) → t ≡ trim_start text → (0 < length t → get_or t 0 0 ≡ mark → ⊥) → ◌≡◌ {A = Option (List Token)} None (behind mark (tokens text))
+pub no_mark_at : (mark : ℕ) (text t : List ℕ) → t ≡ trim_start text → (0 < length t → get_or t 0 0 ≡ mark → ⊥)
+    → ◌≡◌ {A = Option (List Token)} None (behind mark (tokens text))
 no_mark_at mark text [] e g = sym (nothing_behind mark text (sym e))
 no_mark_at mark text (first ∷ rest) e g = sym (no_mark mark first text rest (sym e) (g (omega arith)))
 

@@ -1,29 +1,10 @@
 -- The names of the registers by number.
-use Rattle.std.proofs.Common.{◌≡◌, ℕ, zero, suc, ◌<◌, List, [], ◌∷◌, length, map, slice_index_or, find, ◌+◌, ◌-◌, ◌≤◌, cond, true, false, Some, None, ap, sym, ◌∙◌, refl, arith}
+use Rattle.std.proofs.Common.{◌≡◌, ℕ, zero, suc, ◌<◌, List, [], ◌∷◌, length, map, slice_index_or, find}
+use Rattle.std.proofs.Common.{◌+◌, ◌-◌, ◌≤◌, cond, true, false, Some, None, ap, sym, ◌∙◌, refl, arith}
 use Rattle.std.specs.List.{range_with_len}
 use Rattle.std.specs.Borrow.{Bor}
+use Rattle.rv_table.proofs.Spelled.{name_at, names-length}
 use Rattle.rv_asm.specs.Names.{names_register, numbered_name, numbered_names}
-
--- to move: rv_table
-name_at : (xs : List (Bor (List ℕ))) (names : List (List ℕ)) (i : ℕ) (d : Bor (List ℕ)) → map (λ name. name.now) xs ≡ names → i < length xs
-    → (slice_index_or xs i d).now ≡ slice_index_or names i []
-name_at [] names i d e l = absurd (omega arith)
-name_at (x ∷ xs) [] i d e l = absurd cc
-name_at (x ∷ xs) (y ∷ names) zero d e l = cc
-name_at (x ∷ xs) (y ∷ names) (suc i) d e l =
-    let same : map (λ name. name.now) xs ≡ names = cc in
-    let shorter : i < length xs = omega arith in
-    name_at xs names i d same shorter
-
--- to move: rv_table
-names-length : (xs : List (Bor (List ℕ))) (names : List (List ℕ)) → map (λ name. name.now) xs ≡ names → length xs ≡ length names
-names-length [] [] e = refl
-names-length [] (y ∷ names) e = absurd cc
-names-length (x ∷ xs) [] e = absurd cc
-names-length (x ∷ xs) (y ∷ names) e =
-    let same : map (λ name. name.now) xs ≡ names = cc in
-    let fewer : length xs ≡ length names = names-length xs names same in
-    omega arith
 
 pub numbered-length : (xs : List (Bor (List ℕ))) → map (λ name. name.now) xs ≡ numbered_names → length xs ≡ 32
 numbered-length xs e = let many : length xs ≡ length numbered_names = names-length xs numbered_names e in omega arith
@@ -42,7 +23,8 @@ range_more : (r : ℕ) → r < 32 → range_with_len r (32 - r) ≡ r ∷ range_
 range_more r h = let many : 32 - r ≡ suc (32 - (r + 1)) = omega arith in rw many refl
 
 pub register_here : (word : List ℕ) (r : ℕ) → r < 32 → names_register word r ≡ true → find (names_register word) (range_with_len r (32 - r)) ≡ Some r
-register_here word r h e = ap (find (names_register word)) (range_more r h) ∙ ap (λ t. cond t (Some r) (find (names_register word) (range_with_len (r + 1) (32 - (r + 1))))) e
+register_here word r h e = ap (find (names_register word)) (range_more r h)
+    ∙ ap (λ t. cond t (Some r) (find (names_register word) (range_with_len (r + 1) (32 - (r + 1))))) e
 
 pub register_next : (word : List ℕ) (r : ℕ) → r < 32 → names_register word r ≡ false
     → find (names_register word) (range_with_len (r + 1) (32 - (r + 1))) ≡ find (names_register word) (range_with_len r (32 - r))

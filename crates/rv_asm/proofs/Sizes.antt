@@ -1,5 +1,6 @@
 -- The parts are as long as the layout says.
-use Rattle.std.proofs.Common.{◌≡◌, ℕ, ◌+◌, not, Bool, true, false, cond, List, [], ◌∷◌, ◌++◌, length, replicate, Option, None, Result, Ok, Err, refl, ap, sym, ◌∙◌, arith, inl, inr, ℤ}
+use Rattle.std.proofs.Common.{◌≡◌, ℕ, ◌+◌, not, Bool, true, false, cond, List, [], ◌∷◌, ◌++◌, length}
+use Rattle.std.proofs.Common.{replicate, Option, None, Result, Ok, Err, refl, ap, sym, ◌∙◌, arith, inl, inr, ℤ}
 use Rattle.std.specs.Prelude.{unsigned_abs, option_and_then}
 use Rattle.std.specs.List.{flat_map}
 use Rattle.std.proofs.lemmas.Bool.{cases_Bool, false≢true, not-true, not-false}
@@ -58,7 +59,8 @@ data_none : (c : Cursor) → (grown c 0).data_size ≡ c.data_size
 unfolding grown
 data_none c = elim (cases_Bool c.in_data) [ inl h ↦ rw h (omega arith) | inr h ↦ rw h refl ]
 
-data_grown : (c : Cursor) (s : Statement) → is_out_of_range s ≡ false → stands_in c.in_data s ≡ true → (grown c (size s)).data_size ≡ c.data_size + length (bytes_of s)
+data_grown : (c : Cursor) (s : Statement) → is_out_of_range s ≡ false → stands_in c.in_data s ≡ true
+    → (grown c (size s)).data_size ≡ c.data_size + length (bytes_of s)
 unfolding size bytes_of is_out_of_range
 data_grown c Blank r h = let none = data_none c in omega (arith, none)
 data_grown c (Part part) r h = let none = data_none c in omega (arith, none)
@@ -80,7 +82,8 @@ pub line_text : (places : List ℕ → Option Place) (c : Cursor) (k : ℕ) (lin
 unfolding passed
 line_text places c k line h = text_grown c _ _ line.statement h
 
-pub line_data : (places : List ℕ → Option Place) (c : Cursor) (k : ℕ) (line : Line) → fault_of places c k (Ok line) ≡ None → stands_in c.in_data line.statement ≡ true
+pub line_data : (places : List ℕ → Option Place) (c : Cursor) (k : ℕ) (line : Line) → fault_of places c k (Ok line) ≡ None
+    → stands_in c.in_data line.statement ≡ true
     → (passed c (Ok line)).data_size ≡ c.data_size + length (line_bytes (Ok line))
 unfolding passed fault_of
 line_data places c k line f h = data_grown c line.statement (in_its_range _ _ c k line f) h

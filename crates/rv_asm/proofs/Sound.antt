@@ -11,7 +11,7 @@ use Rattle.rv_table.specs.declared.form.Form.{Form}
 use Rattle.rv_table.specs.declared.form.Form.TheVariants.{U, J, I, B, S, Shift, R, Call as SystemCall, NoFields}
 use Rattle.rv_table.specs.declared.op.Op.{Op}
 use Rattle.rv_asm.specs.Statements.{plain}
-use Rattle.rv_asm.specs.declared.statement.TheConstants.{RA}
+use Rattle.rv_asm.specs.declared.statement.TheConstants.{A0, A7, RA}
 use Rattle.rv_asm.specs.Sound.{IsReadyFor, takes_number, branches, takes_offset, takes_two}
 
 -- an operation whose fields fit the form of its row
@@ -72,7 +72,7 @@ sound_r code rd rs1 rs2 row is p q r = fit R (plain code rd rs1 rs2) row is (fit
 
 -- ECALL, and the instructions with no fields
 
-fits_call : (code : ℕ) → fits SystemCall (plain code 0 17 10) ≡ true
+fits_call : (code : ℕ) → fits SystemCall (plain code 0 A7 A0) ≡ true
 unfolding fits
 fits_call code = refl
 
@@ -80,8 +80,8 @@ fits_bare : (code : ℕ) → fits NoFields (plain code 0 0 0) ≡ true
 unfolding fits
 fits_bare code = refl
 
-pub sound_call : (code : ℕ) → has_row code ≡ true → form_of code ≡ SystemCall → IsTrue (well_formed (plain code 0 17 10))
-sound_call code row is = fit SystemCall (plain code 0 17 10) row is (fits_call code)
+pub sound_call : (code : ℕ) → has_row code ≡ true → form_of code ≡ SystemCall → IsTrue (well_formed (plain code 0 A7 A0))
+sound_call code row is = fit SystemCall (plain code 0 A7 A0) row is (fits_call code)
 
 pub sound_no_fields : (code : ℕ) → has_row code ≡ true → form_of code ≡ NoFields → IsTrue (well_formed (plain code 0 0 0))
 sound_no_fields code row is = fit NoFields (plain code 0 0 0) row is (fits_bare code)

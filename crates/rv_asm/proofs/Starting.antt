@@ -1,5 +1,6 @@
 -- Where `_start` stands in a source without a fault: at an address of the text part, which is an instruction's or its end.
-use Rattle.std.proofs.Common.{◌≡◌, ℕ, ◌+◌, ◌%◌, ◌≤◌, ◌||◌, ◌&&◌, ◌⊎◌, not, Bool, true, false, cond, eqb, List, [], ◌∷◌, ◌++◌, Option, Some, None, Result, Ok, Err, refl, ap, sym, ◌∙◌, arith, subst, inl, inr}
+use Rattle.std.proofs.Common.{◌≡◌, ℕ, ◌+◌, ◌%◌, ◌≤◌, ◌||◌, ◌&&◌, ◌⊎◌, not, Bool, true, false, cond, eqb, List, []}
+use Rattle.std.proofs.Common.{◌∷◌, ◌++◌, Option, Some, None, Result, Ok, Err, refl, ap, sym, ◌∙◌, arith, subst, inl, inr}
 use Rattle.std.specs.Prelude.{bytes_eq, codes, option_and_then, option_map}
 use Rattle.std.specs.Option.{option_or}
 use Rattle.std.proofs.lemmas.Bool.{cases_Bool, eqb-true, eq-eqb, false≢true, not-false, not-true, or_parts}
@@ -44,7 +45,8 @@ end_of-le c (bytes ∷ rest) =
     let more = end_of-le (behind_line c bytes) rest in
     omega (arith, one, more)
 
-not_bad : (own target : Option Place) (c : Cursor) (k : ℕ) (line : Line) → later_fault own target c k line ≡ None → (is_start line.name && is_bad_place k own) ≡ false
+not_bad : (own target : Option Place) (c : Cursor) (k : ℕ) (line : Line) → later_fault own target c k line ≡ None
+    → (is_start line.name && is_bad_place k own) ≡ false
 unfolding later_fault
 not_bad own target c k line h =
     by_tests (is_out_of_range line.statement) (misses (address c) target line.statement) (is_start line.name && is_bad_place k own) _ h
@@ -117,7 +119,8 @@ starts_well places c k [] own none known found = absurd (no_name own found)
 starts_well places c k (bytes ∷ rest) own none known found =
     let line : Result Line Fault = line_of c.in_data bytes in
     let here_none : fault_of places c k line ≡ None = faultless places c k bytes (bytes ∷ rest) rest line refl refl none in
-    let rest_none : first_fault places (passed c line) (k + 1) rest ≡ None = go_on places c (passed c line) k bytes (bytes ∷ rest) rest line None refl refl refl (sym here_none) none in
+    let rest_none : first_fault places (passed c line) (k + 1) rest ≡ None = go_on places c (passed c line) k bytes (bytes ∷ rest) rest line None refl refl
+    refl (sym here_none) none in
     here_or_later places c k line rest own (end_of (behind_line c bytes) rest) here_none known
     (sym (first_of-append start_name (defined c k line) (definitions (passed c line) (k + 1) rest)) ∙ found)
     (end_of-le c (bytes ∷ rest))

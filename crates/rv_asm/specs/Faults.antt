@@ -1,5 +1,6 @@
 -- Faults: what is wrong with a line, and the first fault of a source.
-use Rattle.std.specs.Prelude.{ℕ, ◌+◌, ◌-◌, ◌%◌, ◌^◌, ◌==◌, ◌&&◌, ◌||◌, Bool, true, false, not, nat_le, nat_lt, if◌then◌else◌, List, [], ◌∷◌, bytes_eq, codes, Option, Some, None, option_map, option_and_then, Result, Ok, Err, ℤ, pos, neg_ℤ}
+use Rattle.std.specs.Prelude.{ℕ, ◌+◌, ◌-◌, ◌%◌, ◌^◌, ◌==◌, ◌&&◌, ◌||◌, Bool, true, false, not, nat_le, nat_lt, if◌then◌else◌}
+use Rattle.std.specs.Prelude.{List, [], ◌∷◌, bytes_eq, codes, Option, Some, None, option_map, option_and_then, Result, Ok, Err, ℤ, pos, neg_ℤ}
 use Rattle.std.specs.Option.{option_or}
 use Rattle.rv_table.specs.Operations.{form_of}
 use Rattle.rv_table.specs.declared.form.Form.{Form}

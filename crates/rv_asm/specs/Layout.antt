@@ -1,5 +1,6 @@
 -- Layout: how many bytes each line has, where it stands, and where each label is.
-use Rattle.std.specs.Prelude.{ℕ, ◌+◌, Bool, false, not, ◌&&◌, if◌then◌else◌, List, [], ◌∷◌, ◌++◌, bytes_eq, Option, Some, None, Result, Ok, Err, ℤ, pos, neg_ℤ, int_lt, unsigned_abs}
+use Rattle.std.specs.Prelude.{ℕ, ◌+◌, Bool, false, not, ◌&&◌, if◌then◌else◌, List, [], ◌∷◌, ◌++◌}
+use Rattle.std.specs.Prelude.{bytes_eq, Option, Some, None, Result, Ok, Err, ℤ, pos, neg_ℤ, int_lt, unsigned_abs}
 use Rattle.elf_write.specs.declared.layout.TheConstants.{DATA_BASE, DATA_ROOM, TEXT_BASE}
 use Rattle.rv_asm.specs.Lines.{Line, line_of, lines}
 use Rattle.rv_asm.specs.Statements.{Statement, Blank, Part, DataWord, DataByte, DataSpace, Ready, WithNumber, WithLabel, NumberInto, AddressInto}

@@ -1,5 +1,6 @@
 -- Numbers: decimal digits with an optional minus, or `0x` and hexadecimal digits of both cases.
-use Rattle.std.specs.Prelude.{ℕ, ◌+◌, ◌*◌, ◌==◌, ◌||◌, Bool, not, if◌then◌else◌, List, [], ◌∷◌, length, drop, min, codes, Option, Some, None, option_map, ℤ, pos, neg_ℤ}
+use Rattle.std.specs.Prelude.{ℕ, ◌+◌, ◌*◌, ◌==◌, ◌||◌, Bool, not, if◌then◌else◌, List, [], ◌∷◌}
+use Rattle.std.specs.Prelude.{length, drop, min, codes, Option, Some, None, option_map, ℤ, pos, neg_ℤ}
 use Rattle.std.specs.Char.{digit_value, is_digit}
 use Rattle.std.specs.List.{list_all, starts_with}
 use Rattle.std.specs.Bool.{nat_eq}

@@ -1,5 +1,6 @@
 -- The program of a source: the instructions of each line, the bytes of the data part, the entry.
-use Rattle.std.specs.Prelude.{ℕ, ◌+◌, ◌-◌, ◌*◌, ◌/◌, ◌%◌, ◌^◌, nat_le, if◌then◌else◌, List, [], ◌∷◌, ◌++◌, codes, replicate, Option, Some, None, option_and_then, Result, Ok, Err, ℤ, unsigned_abs}
+use Rattle.std.specs.Prelude.{ℕ, ◌+◌, ◌-◌, ◌*◌, ◌/◌, ◌%◌, ◌^◌, nat_le, if◌then◌else◌, List, [], ◌∷◌}
+use Rattle.std.specs.Prelude.{◌++◌, codes, replicate, Option, Some, None, option_and_then, Result, Ok, Err, ℤ, unsigned_abs}
 use Rattle.std.specs.Int.{cast_unsigned, to_le_bytes, w32, w64}
 use Rattle.elf_write.specs.declared.layout.TheConstants.{TEXT_BASE}
 use Rattle.rv_table.specs.Operations.{form_of}

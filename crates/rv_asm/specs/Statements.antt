@@ -13,7 +13,7 @@ use Rattle.rv_asm.specs.Tokens.{Token, address_of, end, one_of, three_of, two_of
 use Rattle.rv_asm.specs.declared.keyword.Keyword.{Keyword}
 use Rattle.rv_asm.specs.declared.keyword.Keyword.TheVariants.{Instruction, Nop, Move, Jump, Call, JumpRegister, Return, BranchIfZero, BranchIfNotZero}
 use Rattle.rv_asm.specs.declared.keyword.Keyword.TheVariants.{LoadImmediate, LoadAddress, TextPart, DataPart, Word, Byte, Space}
-use Rattle.rv_asm.specs.declared.statement.TheConstants.{RA}
+use Rattle.rv_asm.specs.declared.statement.TheConstants.{A0, A7, RA}
 
 pub data Statement : Type 0 where
   -- no statement
@@ -117,7 +117,7 @@ by_form B code ts = branch code ts
 by_form S code ts = store code ts
 by_form Shift code ts = immediate code ts
 by_form R code ts = registers code ts
-by_form SystemCall code ts = bare (Ready (plain code 0 17 10)) ts
+by_form SystemCall code ts = bare (Ready (plain code 0 A7 A0)) ts
 by_form Counter code ts = None
 by_form NoFields code ts = bare (Ready (plain code 0 0 0)) ts
 

@@ -1,20 +1,20 @@
 //! What can be wrong with a source.
 
-/// What can be wrong with a line of a source, or with the whole.
+/// What can be wrong with a line of a source, or with the whole, in the order of their numbers, 1 to 7.
 #[derive(Clone, Copy, Debug, PartialEq, Eq)]
 pub enum Fault {
     /// A byte isn't allowed.
-    BadByte = 1,
+    BadByte,
     /// The first word of the statement is no mnemonic and no directive, or the label before the colon isn't spelled as one.
-    UnknownWord = 2,
+    UnknownWord,
     /// The operands don't have the statement's form, or the statement stands in the wrong part.
-    BadForm = 3,
+    BadForm,
     /// A number or an offset is out of its range; or `_start` is no address of an instruction.
-    OutOfRange = 4,
+    OutOfRange,
     /// The label was defined on an earlier line.
-    DefinedTwice = 5,
+    DefinedTwice,
     /// A label that is used is defined on no line.
-    Undefined = 6,
+    Undefined,
     /// The source is above 1 MiB, its text part is empty, or a part is too large.
-    BadSize = 7,
+    BadSize,
 }

@@ -1,8 +1,8 @@
 //! An assembler for RV32IM: from a source to the file of its program, or to its first fault.
 //!
 //! A line is read from bytes to tokens, to operands, to a statement: `bytes`, `tokens`, `numbers`, `names`, `keyword`,
-//! `statement`, `line`. `layout` says where each line stands and where each label is, `fault` finds the first fault of a
-//! source, `code` has the instructions of a statement, and `assembler` puts the file together.
+//! `statement`, `line`. `layout` says where each line stands and where each label is, `search` finds the first `fault` of a
+//! source, `code` has the instructions and the bytes of each statement, and `assembler` puts the file together.
 #![tactic(auto)]
 
 mod assembler;
@@ -22,3 +22,6 @@ mod tokens;
 pub use assembler::assemble;
 pub use error::AsmError;
 pub use layout::SOURCE_ROOM;
+
+#[cfg(test)]
+mod tests;

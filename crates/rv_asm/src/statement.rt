@@ -18,6 +18,11 @@ use rv_table::{Form, Op, codes, form_of, operation_of};
 /// The register of a return address.
 pub const RA: u8 = 1;
 
+/// The registers that ECALL reads.
+pub const A0: u8 = 10;
+
+pub const A7: u8 = 17;
+
 /// What a line says but for its label. Labels are words of the line.
 #[derive(Clone, Copy)]
 pub enum Statement<'s> {
@@ -200,7 +205,7 @@ fn instruction<'s>(code: u8, text: &'s [u8]) -> Option<Statement<'s>>
         Form::S => store(code, text),
         Form::Shift => immediate(code, text),
         Form::R => registers(code, text),
-        Form::Call => bare_op(plain(code, 0, 17, 10), text),
+        Form::Call => bare_op(plain(code, 0, A7, A0), text),
         Form::NoFields => bare_op(plain(code, 0, 0, 0), text),
         Form::Counter => None,
     }

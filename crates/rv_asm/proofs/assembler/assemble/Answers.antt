@@ -1,17 +1,14 @@
-use Rattle.std.proofs.Common.{◌≡◌, ◌∙◌, ◌+◌, ◌<◌, ◌≤◌, ◌^◌, ℕ, List, Option, Some, None, true, false, length, ap, subst, sym, arith}
+use Rattle.std.proofs.Common.{◌≡◌, ◌∙◌, ◌<◌, ◌≤◌, ℕ, List, Option, Some, None, true, false, length, ap, subst, sym, arith}
 use Rattle.std.proofs.Math.Path.{fun_ext}
 use Rattle.std.specs.List.{AllByRecursion, flat_map}
 use Rattle.elf_write.specs.Code.{IsCoded, op_bytes}
-use Rattle.elf_write.specs.Loading.{IsLoaded}
-use Rattle.elf_write.specs.declared.layout.TheConstants.{TEXT_BASE}
 use Rattle.rv_asm.specs.Faults.{first_fault}
 use Rattle.rv_asm.specs.Labels.{found}
 use Rattle.rv_asm.specs.Layout.{end_of, place_of, start}
 use Rattle.rv_asm.specs.Lines.{lines}
-use Rattle.rv_asm.specs.Program.{bytes_in, entry_in, ops_in}
-use Rattle.rv_asm.specs.Sources.{IsProgram, data_part, entry, has_bad_size, number_of, program, text_part}
+use Rattle.rv_asm.specs.Program.{entry_in, ops_in}
+use Rattle.rv_asm.specs.Sources.{data_part, entry, has_bad_size, program, text_part}
 use Rattle.rv_asm.specs.declared.fault.Fault.{Fault}
-use Rattle.rv_asm.specs.declared.layout.Cursor.{Cursor}
 use Rattle.rv_asm.specs.declared.layout.Place.{Place}
 use Rattle.rv_asm.proofs.Assembled.{AreRoomy, IsEntry, bad_size, entry_well, finished, no_fault, on_line, roomy, too_long}
 use Rattle.rv_asm.proofs.assembler.assemble.Goals as goal
@@ -31,7 +28,8 @@ returns-then-has_bad_size c =
     let places : found c.in_ok-layout.layout.labels ≡ place_of c.args.source.now = fun_ext c.in_ok-layout.ensures.labels in
     let none : ◌≡◌ {A = Option (ℕ × Fault)} None (first_fault (place_of c.args.source.now) start 1 (lines c.args.source.now)) =
     c.in_default.ensures ∙ ap (λ (p : List ℕ → Option Place). first_fault p start 1 (lines c.args.source.now)) places in
-    let bad : has_bad_size (end_of start (lines c.args.source.now)) ≡ true = ap has_bad_size (sym c.in_ok-layout.ensures.end) ∙ sym c.if-has_bad_size.ensures in
+    let bad : has_bad_size (end_of start (lines c.args.source.now)) ≡ true = ap has_bad_size (sym c.in_ok-layout.ensures.end)
+    ∙ sym c.if-has_bad_size.ensures in
     rw c.bad-then-has_bad_size.ensures (bad_size c.args.source.now c.if-source-gt-SOURCE_ROOM.false none bad)
 
 pub entry-entry-requires : goal.entry-entry-requires

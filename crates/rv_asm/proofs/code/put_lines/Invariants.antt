@@ -1,4 +1,4 @@
-use Rattle.std.proofs.Common.{◌≡◌, ℕ, ◌+◌, ◌*◌, ◌^◌, ◌≤◌, ◌++◌, None, length}
+use Rattle.std.proofs.Common.{◌≡◌, ◌+◌, ◌*◌, ◌^◌, ◌≤◌, ◌++◌, None, length}
 use Rattle.std.specs.List.{AllByRecursion, flat_map}
 use Rattle.elf_write.specs.Code.{IsCoded, op_bytes}
 use Rattle.rv_asm.specs.Faults.{first_fault}
@@ -15,7 +15,8 @@ invariant-loop-rest l = record {
   code : l.text_part.items ++ flat_map op_bytes (ops_in (found l.labels) l.cursor (lines l.rest))
       ≡ flat_map op_bytes (ops_in (found l.labels) start (lines l.fn.source));
   contents : l.data_part.items ++ bytes_in l.cursor (lines l.rest) ≡ bytes_in start (lines l.fn.source);
-  coded : AllByRecursion IsCoded (ops_in (found l.labels) l.cursor (lines l.rest)) → AllByRecursion IsCoded (ops_in (found l.labels) start (lines l.fn.source));
+  coded : AllByRecursion IsCoded (ops_in (found l.labels) l.cursor (lines l.rest))
+      → AllByRecursion IsCoded (ops_in (found l.labels) start (lines l.fn.source));
   end : end_of l.cursor (lines l.rest) ≡ end_of start (lines l.fn.source);
   text_size : length l.text_part.items ≡ l.cursor.text_size;
   data_size : length l.data_part.items ≡ l.cursor.data_size;

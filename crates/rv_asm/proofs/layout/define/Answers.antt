@@ -1,7 +1,6 @@
-use Rattle.std.proofs.Common.{◌≡◌, ◌∙◌, Option, Some, None, Bool, sym, inl, inr}
+use Rattle.std.proofs.Common.{◌≡◌, ◌∙◌, Some, None, sym}
 use Rattle.std.proofs.lemmas.Map.Text.{hash_map_updates_str}
 use Rattle.rv_asm.specs.Labels.{found}
-use Rattle.rv_asm.specs.declared.layout.Place.{Place}
 use Rattle.rv_asm.proofs.LayingOut.{added}
 use Rattle.rv_asm.proofs.layout.define.Goals as goal
 

@@ -1,7 +1,7 @@
-use Rattle.std.proofs.Common.{◌≡◌, ◌∙◌, ◌+◌, ◌*◌, ◌<◌, ◌≤◌, ◌^◌, [], None, length, refl, sym, ap, arith}
-use Rattle.std.proofs.lemmas.Bool.{eqb-true, eqb-false}
+use Rattle.std.proofs.Common.{◌≡◌, ◌+◌, ◌≤◌, None, length, refl, sym, arith}
+use Rattle.std.proofs.lemmas.Bool.{eqb-true}
 use Rattle.rv_asm.specs.Labels.{found}
-use Rattle.rv_asm.specs.Layout.{definitions, end_of, first_of, place_of, start}
+use Rattle.rv_asm.specs.Layout.{end_of, place_of, start}
 use Rattle.rv_asm.specs.Lines.{lines}
 use Rattle.rv_asm.specs.Shown.{shown_lines}
 use Rattle.rv_asm.proofs.LayingOut.{done, done_end, step, step_end}
@@ -23,7 +23,8 @@ pub loop-rest-preserved : goal.loop-rest-preserved
 loop-rest-preserved c =
     let shorter : length c.next_line.result.1.now + 1 ≤ length c.loop-rest.rest.now = omega (arith, c.next_line.ensures.shorter) in
     record {
-      labels = step (found c.loop-rest.labels) (found c.define_in.new.labels) c.loop-rest.cursor c.passed-cursor.result c.loop-rest.number c.next_line.result.0.now
+      labels = step (found c.loop-rest.labels) (found c.define_in.new.labels) c.loop-rest.cursor c.passed-cursor.result c.loop-rest.number
+          c.next_line.result.0.now
           (lines c.loop-rest.rest.now) (lines c.next_line.result.1.now) (shown_lines c.line_of-line.result) (place_of c.args.source.now)
           c.next_line.ensures.lines c.line_of-line.ensures.line c.passed-cursor.ensures.cursor c.in_ok-define_in.ensures c.loop-rest.invariant.labels;
       end = step_end c.loop-rest.cursor c.passed-cursor.result (end_of start (lines c.args.source.now)) c.next_line.result.0.now
@@ -41,4 +42,5 @@ returns-clause-labels c =
 
 pub returns-clause-end : goal.returns-clause-end
 returns-clause-end c =
-    done_end c.loop-rest.cursor (end_of start (lines c.args.source.now)) c.loop-rest.rest.now (eqb-true _ _ (sym c.loop-rest-test.ensures)) c.loop-rest.invariant.end
+    done_end c.loop-rest.cursor (end_of start (lines c.args.source.now)) c.loop-rest.rest.now (eqb-true _ _ (sym c.loop-rest-test.ensures))
+    c.loop-rest.invariant.end

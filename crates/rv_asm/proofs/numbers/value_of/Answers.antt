@@ -1,4 +1,4 @@
-use Rattle.std.proofs.Common.{◌≤◌, ◌∙◌, sym, arith}
+use Rattle.std.proofs.Common.{◌∙◌, sym, arith}
 use Rattle.rv_asm.proofs.Digits.{digit_more, digits_read}
 use Rattle.rv_asm.proofs.numbers.value_of.Goals as goal
 

@@ -1,4 +1,4 @@
-use Rattle.std.proofs.Common.{◌≡◌, ℕ, ◌+◌, ◌*◌, ◌^◌, ◌≤◌, length}
+use Rattle.std.proofs.Common.{◌≡◌, ◌+◌, ◌*◌, ◌^◌, ◌≤◌, length}
 use Rattle.rv_asm.specs.Faults.{first_fault}
 use Rattle.rv_asm.specs.Labels.{found}
 use Rattle.rv_asm.specs.Layout.{start}
