@@ -1,4 +1,4 @@
-// The names and the bits of the structures, as tables of the written layout, and each public call once.
+// The names and the bits of the structures, as tables of the structures in docs/MACHINE.md, and each public call once.
 
 use super::*;
 

@@ -1,5 +1,5 @@
 // What no clause says: that each call succeeds with ample memory, a small program's cycles one by one, and the places of the
-// structures at their corners. The cycles are worked out by hand from the written rules: an instruction is fetched in one
+// structures at their corners. The cycles are worked out by hand from docs/MACHINE.md: an instruction is fetched in one
 // cycle, decoded in the next, leaves EX in the third and M in the fourth.
 ghost use Rattle.std.specs.Prelude.{◌≡◌, ◌<◌};
 

@@ -1,4 +1,4 @@
-//! Files by hand, with what they mean by the ELF specification and the written reasons to refuse.
+//! Files by hand, with what they mean by the ELF specification and the causes of `bad image` in docs/MACHINE.md.
 use elf_fixture::{Header, Segment, THREE, bytes_of, file, flat, segmented};
 use elf_load::{LoadError, accepted_means_image, load, segments};
 use std::test::Fail;

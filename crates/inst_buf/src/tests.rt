@@ -3,7 +3,7 @@
 use super::*;
 use bit_field::Struck;
 
-// What a slot holds where only this bit of it is 1, by the written layout: valid 0, fault 1, pc 2 to 31, word 32 to 63.
+// What a slot holds where only this bit of it is 1, by docs/MACHINE.md: valid 0, fault 1, pc 2 to 31, word 32 to 63.
 fn with_bit(bit: u32) -> (bool, bool, u32, u32) {
     match bit {
         0 => (true, false, 0, 0),

@@ -1,4 +1,4 @@
-// The bit numbers, and the operands and instructions of the written rules worked by hand.
+// The bit numbers, and operands and instructions worked out by hand from docs/MACHINE.md.
 ghost use Rattle.std.specs.Prelude.{◌<◌};
 
 use super::*;

@@ -1,4 +1,4 @@
-// The bit numbers of the two tables, and predictions worked out by hand from the written rule.
+// The bit numbers of the two tables, and predictions worked out by hand from docs/MACHINE.md.
 
 use super::*;
 use bit_field::{Place, Struck, Structure};

@@ -1,5 +1,5 @@
 // What no clause says: that a run is recorded with ample memory, and the rows of two small programs. The rows are worked out by
-// hand from the written rules.
+// hand from docs/MACHINE.md.
 ghost use Rattle.std.specs.Prelude.{◌≡◌, ◌<◌};
 
 use super::*;

@@ -1,11 +1,11 @@
-// The bit numbers of the buffer, the order of its stores, and a table of covers worked out by hand from the written rule.
+// The bit numbers of the buffer, the order of its stores, and a table of covers worked out by hand from docs/MACHINE.md.
 
 ghost use Rattle.std.specs.Prelude.{◌≡◌, ◌<◌};
 
 use super::*;
 use bit_field::Struck;
 
-// What a slot holds where only this bit of it is 1, by the written layout: mask 0 to 3, word address 4 to 33, value 34 to 65.
+// What a slot holds where only this bit of it is 1, by docs/MACHINE.md: mask 0 to 3, word address 4 to 33, value 34 to 65.
 fn with_bit(bit: u32) -> (u8, u32, u32) {
     match bit {
         0..=3 => (1 << bit, 0, 0),

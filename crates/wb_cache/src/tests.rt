@@ -1,5 +1,5 @@
 // The bit numbers of the five arrays at their corners, and accesses to one set with their victims. The victims are worked out
-// by hand from the written rules: the invalid way of least number; else for one way way 0, for two the way of node 0, and for
+// by hand from docs/MACHINE.md: the invalid way of least number; else for one way way 0, for two the way of node 0, and for
 // four the way of node 1 where node 0 is 0, and 2 plus node 2 where it is 1. After a use of way w, node 0 of two ways is 1 - w;
 // of four, node 0 is 1 and node 1 is 1 - w for w below 2, else node 0 is 0 and node 2 is 3 - w.
 
