@@ -1,31 +1,17 @@
 -- Each instruction of a generated program is well-formed.
-use Rattle.std.proofs.Common.{◌≡◌, ℕ, ◌+◌, ◌-◌, ◌*◌, ◌/◌, ◌%◌, ◌^◌, ◌<◌, Bool, ◌||◌, ◌≤◌, true, false, cond, ◌∙◌, zero, suc, refl, ap, arith}
+use Rattle.std.proofs.Common.{◌≡◌, ℕ, ◌+◌, ◌-◌, ◌*◌, ◌/◌, ◌%◌, ◌^◌, ◌<◌, ◌≤◌, true, false, cond, zero, suc, refl, arith}
 use Rattle.std.specs.Prelude.{◌==◌, IsTrue, nat_lt, if◌then◌else◌}
 use Rattle.std.specs.List.{All}
-use Rattle.std.proofs.lemmas.Bool.{and_from}
 use Rattle.std.proofs.lemmas.Bool.Decides.{nat_tests}
-use Rattle.rv_table.specs.Operations.{form_of, has_row}
+use Rattle.rv_table.proofs.Encoded.{fit, fits_r}
+use Rattle.rv_table.specs.Operations.{form_of, has_row, of_registers}
 use Rattle.rv_table.specs.Rows.{row_of}
 use Rattle.rv_table.specs.WellFormed.{fits, well_formed}
-use Rattle.rv_table.specs.declared.form.Form.{Form}
 use Rattle.rv_table.specs.declared.form.Form.TheVariants.{J, I, S, R}
 use Rattle.rv_table.specs.declared.op.Op.{Op}
 use Rattle.rv_table.specs.declared.codes.TheConstants.{JAL, LW, LBU, SB, SW, ADDI, XORI, ADD, SUB, SLL, SLT, XOR, SRL, OR, AND, MUL, DIVU}
 use Rattle.img_gen.specs.declared.program.TheConstants.{ZERO, S0}
-use Rattle.img_gen.specs.Program.{registers, immediate, two_registers, register_at, by_kind, body_op, start, finish, back}
-
--- an operation whose fields fit the form of its row
-fit : (form : Form) (op : Op) → has_row op.code ≡ true → form_of op.code ≡ form → fits form op ≡ true → IsTrue (well_formed op)
-unfolding well_formed
-fit form op row is h = and_from _ _ (either (op.code == 0) (has_row op.code) row) (ap (λ f. fits f op) is ∙ h)
-  where
-    either : (a b : Bool) → b ≡ true → (a || b) ≡ true
-    either true b h = refl
-    either false b h = h
-
-three : (code rd rs1 rs2 : ℕ) → rd < 32 → rs1 < 32 → rs2 < 32 → fits R (registers code rd rs1 rs2) ≡ true
-unfolding fits
-three code rd rs1 rs2 p q r = grind (arith, nat_tests)
+use Rattle.img_gen.specs.Program.{immediate, two_registers, register_at, by_kind, body_op, start, finish, back}
 
 two : (code rd rs1 n : ℕ) → rd < 32 → rs1 < 32 → n < 2 ^ 12 → fits I (immediate code rd rs1 (if nat_lt n (2 ^ 11) then n else n + (2 ^ 32 - 2 ^ 12))) ≡ true
 unfolding fits
@@ -47,18 +33,18 @@ unfolding by_kind has_row form_of row_of
 fits_by_kind kind rd rs1 rs2 n p q r h =
     let low : n % 2 ^ 11 < 2 ^ 11 = omega arith in
     let word : n % 2 ^ 11 / 4 * 4 < 2 ^ 11 = omega arith in
-    one kind 0 _ _ (fit R (registers ADD rd rs1 rs2) refl refl (three ADD rd rs1 rs2 p q r))
-    (one kind 1 _ _ (fit R (registers SUB rd rs1 rs2) refl refl (three SUB rd rs1 rs2 p q r))
-    (one kind 2 _ _ (fit R (registers XOR rd rs1 rs2) refl refl (three XOR rd rs1 rs2 p q r))
-    (one kind 3 _ _ (fit R (registers OR rd rs1 rs2) refl refl (three OR rd rs1 rs2 p q r))
-    (one kind 4 _ _ (fit R (registers AND rd rs1 rs2) refl refl (three AND rd rs1 rs2 p q r))
-    (one kind 5 _ _ (fit R (registers SLL rd rs1 rs2) refl refl (three SLL rd rs1 rs2 p q r))
-    (one kind 6 _ _ (fit R (registers SRL rd rs1 rs2) refl refl (three SRL rd rs1 rs2 p q r))
-    (one kind 7 _ _ (fit R (registers MUL rd rs1 rs2) refl refl (three MUL rd rs1 rs2 p q r))
+    one kind 0 _ _ (fit R (of_registers ADD rd rs1 rs2) refl refl (fits_r ADD rd rs1 rs2 p q r))
+    (one kind 1 _ _ (fit R (of_registers SUB rd rs1 rs2) refl refl (fits_r SUB rd rs1 rs2 p q r))
+    (one kind 2 _ _ (fit R (of_registers XOR rd rs1 rs2) refl refl (fits_r XOR rd rs1 rs2 p q r))
+    (one kind 3 _ _ (fit R (of_registers OR rd rs1 rs2) refl refl (fits_r OR rd rs1 rs2 p q r))
+    (one kind 4 _ _ (fit R (of_registers AND rd rs1 rs2) refl refl (fits_r AND rd rs1 rs2 p q r))
+    (one kind 5 _ _ (fit R (of_registers SLL rd rs1 rs2) refl refl (fits_r SLL rd rs1 rs2 p q r))
+    (one kind 6 _ _ (fit R (of_registers SRL rd rs1 rs2) refl refl (fits_r SRL rd rs1 rs2 p q r))
+    (one kind 7 _ _ (fit R (of_registers MUL rd rs1 rs2) refl refl (fits_r MUL rd rs1 rs2 p q r))
     (one kind 8 _ _ (fit I (immediate ADDI rd rs1 _) refl refl (two ADDI rd rs1 n p q h))
     (one kind 9 _ _ (fit I (immediate XORI rd rs1 _) refl refl (two XORI rd rs1 n p q h))
-    (one kind 10 _ _ (fit R (registers DIVU rd rs1 rs2) refl refl (three DIVU rd rs1 rs2 p q r))
-    (one kind 11 _ _ (fit R (registers SLT rd rs1 rs2) refl refl (three SLT rd rs1 rs2 p q r))
+    (one kind 10 _ _ (fit R (of_registers DIVU rd rs1 rs2) refl refl (fits_r DIVU rd rs1 rs2 p q r))
+    (one kind 11 _ _ (fit R (of_registers SLT rd rs1 rs2) refl refl (fits_r SLT rd rs1 rs2 p q r))
     (one kind 12 _ _ (fit I (immediate LW rd S0 _) refl refl (near LW rd S0 _ p (omega arith) word))
     (one kind 13 _ _ (fit S (two_registers SW S0 rs2 _) refl refl (store SW S0 rs2 _ (omega arith) r word))
     (one kind 14 _ _ (fit I (immediate LBU rd S0 _) refl refl (near LBU rd S0 _ p (omega arith) low))

@@ -1,12 +1,11 @@
 -- How many bytes a generated program has.
-use Rattle.std.proofs.Common.{◌≡◌, ℕ, zero, suc, ◌+◌, ◌*◌, List, [], ◌∷◌, ◌∙◌, length, map, refl, ap, arith, length-append}
+use Rattle.std.proofs.Common.{◌≡◌, ℕ, zero, suc, ◌+◌, ◌*◌, ◌∙◌, length, map, refl, ap, arith, length-append}
 use Rattle.std.specs.List.{flat_map}
 use Rattle.std.proofs.lemmas.List.{length-map}
 use Rattle.rand_core.specs.Pcg32Seed.{pcg32_seed}
 use Rattle.rand_core.specs.Steps.{first_words}
 use Rattle.rand_pcg.specs.Lcg.{Lcg}
 use Rattle.rand_pcg.specs.Pcg.{pcg32, pcg32_of_seed}
-use Rattle.rv_table.specs.declared.op.Op.{Op}
 use Rattle.elf_write.specs.Code.{op_bytes}
 use Rattle.elf_write.proofs.CodeSizes.{length-code}
 use Rattle.img_gen.specs.Program.{body_op, finish, program, random_words}

@@ -8,14 +8,13 @@ use Rattle.rand_pcg.specs.Pcg.{pcg32, pcg32_of_seed}
 use Rattle.elf_write.specs.Code.{op_bytes}
 use Rattle.elf_write.specs.File.{file}
 use Rattle.elf_write.specs.declared.layout.TheConstants.{TEXT_BASE, DATA_BASE}
+use Rattle.rv_table.specs.Operations.{of_registers}
 use Rattle.rv_table.specs.Words.{sign_extended}
 use Rattle.rv_table.specs.declared.op.Op.{Op}
-use Rattle.rv_table.specs.declared.codes.TheConstants.{LUI, JAL, BEQ, LW, LBU, SB, SW, ADDI, XORI, ADD, SUB, SLL, SLT, XOR, SRL, OR, AND, MUL, DIVU, ECALL}
+use Rattle.rv_table.specs.declared.codes.TheConstants.{LUI, JAL, BEQ, LW, LBU, SB, SW, ADDI, XORI, ECALL}
+use Rattle.rv_table.specs.declared.codes.TheConstants.{ADD, SUB, SLL, SLT, XOR, SRL, OR, AND, MUL, DIVU}
 use Rattle.img_gen.specs.declared.program.TheConstants.{ZERO, S0, S1, A0, A7, ROUNDS, PUT, EXIT}
 use Rattle.img_gen.specs.declared.generator.TheConstants.{MAX_SIZE}
-
-abbrev pub registers : ℕ → ℕ → ℕ → ℕ → Op
-registers code rd rs1 rs2 = record { code = code; rd = rd; rs1 = rs1; rs2 = rs2; imm = 0 }
 
 abbrev pub immediate : ℕ → ℕ → ℕ → ℕ → Op
 immediate code rd rs1 imm = record { code = code; rd = rd; rs1 = rs1; rs2 = 0; imm = imm }
@@ -40,18 +39,18 @@ word_offset n = n % 2 ^ 11 / 4 * 4
 -- the instruction of a kind, with two operands and a number of 12 bits
 unfoldable pub by_kind : ℕ → ℕ → ℕ → ℕ → ℕ → Op
 by_kind kind rd rs1 rs2 n =
-    if kind == 0 then registers ADD rd rs1 rs2 else (
-    if kind == 1 then registers SUB rd rs1 rs2 else (
-    if kind == 2 then registers XOR rd rs1 rs2 else (
-    if kind == 3 then registers OR rd rs1 rs2 else (
-    if kind == 4 then registers AND rd rs1 rs2 else (
-    if kind == 5 then registers SLL rd rs1 rs2 else (
-    if kind == 6 then registers SRL rd rs1 rs2 else (
-    if kind == 7 then registers MUL rd rs1 rs2 else (
+    if kind == 0 then of_registers ADD rd rs1 rs2 else (
+    if kind == 1 then of_registers SUB rd rs1 rs2 else (
+    if kind == 2 then of_registers XOR rd rs1 rs2 else (
+    if kind == 3 then of_registers OR rd rs1 rs2 else (
+    if kind == 4 then of_registers AND rd rs1 rs2 else (
+    if kind == 5 then of_registers SLL rd rs1 rs2 else (
+    if kind == 6 then of_registers SRL rd rs1 rs2 else (
+    if kind == 7 then of_registers MUL rd rs1 rs2 else (
     if kind == 8 then immediate ADDI rd rs1 (sign_extended 12 n) else (
     if kind == 9 then immediate XORI rd rs1 (sign_extended 12 n) else (
-    if kind == 10 then registers DIVU rd rs1 rs2 else (
-    if kind == 11 then registers SLT rd rs1 rs2 else (
+    if kind == 10 then of_registers DIVU rd rs1 rs2 else (
+    if kind == 11 then of_registers SLT rd rs1 rs2 else (
     if kind == 12 then immediate LW rd S0 (word_offset n) else (
     if kind == 13 then two_registers SW S0 rs2 (word_offset n) else (
     if kind == 14 then immediate LBU rd S0 (byte_offset n) else
@@ -82,9 +81,9 @@ finish size =
     ∷ two_registers BEQ S1 ZERO 8
     ∷ immediate JAL ZERO ZERO (back (4 * (size + 2)))
     ∷ immediate ADDI A7 ZERO PUT
-    ∷ registers ECALL 0 A7 A0
+    ∷ of_registers ECALL 0 A7 A0
     ∷ immediate ADDI A7 ZERO EXIT
-    ∷ registers ECALL 0 A7 A0
+    ∷ of_registers ECALL 0 A7 A0
     ∷ []
 
 unfoldable pub program : ℕ → ℕ → List Op

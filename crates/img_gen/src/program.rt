@@ -31,19 +31,6 @@ pub const PUT: u32 = 1;
 
 pub const EXIT: u32 = 93;
 
-/// An operation of rd, rs1 and rs2.
-fn registers(code: u8, rd: u8, rs1: u8, rs2: u8) -> Op
-    ensures { result ≡ spec.registers code rd rs1 rs2 }
-{
-    Op {
-        code,
-        rd,
-        rs1,
-        rs2,
-        imm: 0,
-    }
-}
-
 /// An operation of rd, rs1 and an immediate.
 fn immediate(code: u8, rd: u8, rs1: u8, imm: u32) -> Op
     ensures { result ≡ spec.immediate code rd rs1 imm }
@@ -97,18 +84,18 @@ fn by_kind(kind: u32, rd: u8, rs1: u8, rs2: u8, n: u32) -> Op
     let byte_offset = n % 0x800;
     let word_offset = byte_offset / 4 * 4;
     match kind {
-        0 => registers(codes::ADD, rd, rs1, rs2),
-        1 => registers(codes::SUB, rd, rs1, rs2),
-        2 => registers(codes::XOR, rd, rs1, rs2),
-        3 => registers(codes::OR, rd, rs1, rs2),
-        4 => registers(codes::AND, rd, rs1, rs2),
-        5 => registers(codes::SLL, rd, rs1, rs2),
-        6 => registers(codes::SRL, rd, rs1, rs2),
-        7 => registers(codes::MUL, rd, rs1, rs2),
+        0 => Op::of_registers(codes::ADD, rd, rs1, rs2),
+        1 => Op::of_registers(codes::SUB, rd, rs1, rs2),
+        2 => Op::of_registers(codes::XOR, rd, rs1, rs2),
+        3 => Op::of_registers(codes::OR, rd, rs1, rs2),
+        4 => Op::of_registers(codes::AND, rd, rs1, rs2),
+        5 => Op::of_registers(codes::SLL, rd, rs1, rs2),
+        6 => Op::of_registers(codes::SRL, rd, rs1, rs2),
+        7 => Op::of_registers(codes::MUL, rd, rs1, rs2),
         8 => immediate(codes::ADDI, rd, rs1, signed_12(n)),
         9 => immediate(codes::XORI, rd, rs1, signed_12(n)),
-        10 => registers(codes::DIVU, rd, rs1, rs2),
-        11 => registers(codes::SLT, rd, rs1, rs2),
+        10 => Op::of_registers(codes::DIVU, rd, rs1, rs2),
+        11 => Op::of_registers(codes::SLT, rd, rs1, rs2),
         12 => immediate(codes::LW, rd, S0, word_offset),
         13 => two_registers(codes::SW, S0, rs2, word_offset),
         14 => immediate(codes::LBU, rd, S0, byte_offset),
@@ -159,8 +146,8 @@ pub fn finish(size: u32) -> [Op; 7]
         two_registers(codes::BEQ, S1, ZERO, 8),
         immediate(codes::JAL, ZERO, ZERO, back(4 * (size + 2))),
         immediate(codes::ADDI, A7, ZERO, PUT),
-        registers(codes::ECALL, 0, A7, A0),
+        Op::of_registers(codes::ECALL, 0, A7, A0),
         immediate(codes::ADDI, A7, ZERO, EXIT),
-        registers(codes::ECALL, 0, A7, A0),
+        Op::of_registers(codes::ECALL, 0, A7, A0),
     ]
 }

@@ -1,12 +1,11 @@
 -- What a source means, by the steps in which it is assembled.
-use Rattle.std.proofs.Common.{◌≡◌, ℕ, ◌+◌, ◌*◌, ◌%◌, ◌^◌, ◌<◌, ◌≤◌, ◌||◌, ◌&&◌, not, Bool, true, false}
-use Rattle.std.proofs.Common.{cond, eqb, ltb, leb, List, Option, Some, None, length, refl, ap, sym, ◌∙◌, arith}
+use Rattle.std.proofs.Common.{◌≡◌, ℕ, ◌+◌, ◌*◌, ◌%◌, ◌<◌, ◌≤◌, not, Bool, true, false}
+use Rattle.std.proofs.Common.{cond, eqb, List, Option, Some, None, length, refl, ap, sym, ◌∙◌, arith}
 use Rattle.std.specs.Prelude.{option_map}
-use Rattle.std.specs.Option.{option_or}
-use Rattle.std.specs.List.{AllByRecursion, flat_map}
-use Rattle.std.proofs.lemmas.Bool.{le-ltb, lt-ltb, ltb-false, or_parts}
+use Rattle.std.specs.List.{AllByRecursion}
+use Rattle.std.proofs.lemmas.Bool.{le-ltb, lt-ltb}
 use Rattle.std.proofs.lemmas.Bool.Decides.{nat_tests}
-use Rattle.elf_write.specs.Code.{IsCoded, op_bytes}
+use Rattle.elf_write.specs.Code.{IsCoded}
 use Rattle.elf_write.specs.File.{file}
 use Rattle.elf_write.specs.Loading.{IsLoaded, begins_in_text}
 use Rattle.elf_write.specs.declared.layout.TheConstants.{DATA_ROOM, TEXT_BASE, TEXT_ROOM}
@@ -17,7 +16,6 @@ use Rattle.rv_asm.specs.Lines.{lines}
 use Rattle.rv_asm.specs.Program.{address_or, entry_in}
 use Rattle.rv_asm.specs.Sources.{IsProgram, assembled, data_part, entry, fault_in, has_bad_size, number_of, numbered, program, text_part}
 use Rattle.rv_asm.specs.declared.fault.Fault.{Fault}
-use Rattle.rv_asm.specs.declared.fault.Fault.TheVariants.{BadSize}
 use Rattle.rv_asm.specs.declared.layout.Cursor.{Cursor}
 use Rattle.rv_asm.specs.declared.layout.Place.{Place}
 use Rattle.rv_asm.specs.declared.layout.TheConstants.{SOURCE_ROOM}

@@ -1,8 +1,8 @@
 -- What a line without a fault allows to put.
-use Rattle.std.proofs.Common.{◌≡◌, ℕ, ◌+◌, ◌*◌, ◌^◌, ◌<◌, ◌||◌, ◌&&◌, not, Bool, true, false}
-use Rattle.std.proofs.Common.{cond, List, Option, Some, None, refl, ap, sym, ◌∙◌, arith, ℤ, pos}
+use Rattle.std.proofs.Common.{◌≡◌, ℕ, ◌^◌, ◌<◌, ◌||◌, ◌&&◌, Bool, true, false}
+use Rattle.std.proofs.Common.{cond, List, Option, Some, None, refl, sym, arith, ℤ, pos}
 use Rattle.std.specs.Prelude.{negsuc, unsigned_abs}
-use Rattle.std.proofs.lemmas.Bool.{false≢true, not-false, or_parts}
+use Rattle.std.proofs.lemmas.Bool.{false≢true, not-false}
 use Rattle.std.proofs.lemmas.Bool.Decides.{nat_tests}
 use Rattle.rv_table.specs.Operations.{form_of}
 use Rattle.rv_table.specs.declared.op.Op.{Op}
@@ -10,7 +10,7 @@ use Rattle.rv_asm.specs.Faults.{is_bad_place, is_again, is_missing, is_out_of_ra
 use Rattle.rv_asm.specs.Layout.{address, is_space}
 use Rattle.rv_asm.specs.Lines.{Line}
 use Rattle.rv_asm.specs.Program.{address_or}
-use Rattle.rv_asm.specs.Statements.{Statement, WithLabel}
+use Rattle.rv_asm.specs.Statements.{WithLabel}
 use Rattle.rv_asm.specs.declared.fault.Fault.{Fault}
 use Rattle.rv_asm.specs.declared.fault.Fault.TheVariants.{OutOfRange, DefinedTwice, Undefined}
 use Rattle.rv_asm.specs.declared.layout.Cursor.{Cursor}

@@ -1,11 +1,11 @@
 -- With its immediate, each instruction that is put has a word.
-use Rattle.std.proofs.Common.{◌≡◌, ℕ, zero, suc, ◌+◌, ◌-◌, ◌*◌, ◌/◌, ◌%◌, ◌^◌, ◌<◌, ◌≤◌, ◌&&◌, ◌||◌, not}
-use Rattle.std.proofs.Common.{Bool, true, false, cond, eqb, ltb, leb, refl, ap, sym, ◌∙◌, arith, lit<, lit≤, ℤ, pos}
+use Rattle.std.proofs.Common.{◌≡◌, ℕ, ◌+◌, ◌*◌, ◌/◌, ◌%◌, ◌^◌, ◌<◌, ◌≤◌}
+use Rattle.std.proofs.Common.{true, eqb, ltb, refl, ap, sym, ◌∙◌, arith, lit<, lit≤, ℤ, pos}
 use Rattle.std.specs.Prelude.{IsTrue, negsuc}
-use Rattle.std.specs.Int.{cast_unsigned, w64}
 use Rattle.std.proofs.lemmas.Bool.{and_from, and_parts, false≢true}
 use Rattle.std.proofs.lemmas.Bool.Decides.{nat_tests}
-use Rattle.rv_table.specs.Operations.{form_of, has_row}
+use Rattle.rv_table.proofs.Encoded.{fit}
+use Rattle.rv_table.specs.Operations.{form_of, has_row, of_registers}
 use Rattle.rv_table.specs.Rows.{row_of}
 use Rattle.rv_table.specs.WellFormed.{fits, is_signed, well_formed}
 use Rattle.rv_table.specs.Words.{sign_extended}
@@ -18,8 +18,6 @@ use Rattle.rv_asm.specs.declared.search.TheConstants.{BRANCH_REACH, JUMP_REACH}
 use Rattle.rv_asm.specs.Layout.{is_short, is_within}
 use Rattle.rv_asm.specs.Program.{immediate_of, lower_of, offset, unsigned, upper_of, with_immediate}
 use Rattle.rv_asm.specs.Sound.{IsReadyFor, takes_number, takes_offset}
-use Rattle.rv_asm.specs.Statements.{plain}
-use Rattle.rv_asm.proofs.Sound.{fit}
 
 -- a short number is a signed one of 12 bits
 short_signed : (n : ℤ) → is_short n ≡ true → is_signed 12 (unsigned n) ≡ true
@@ -119,11 +117,11 @@ label_fits op origin goal r h = by_form (form_of op.code) refl r.taking h
 
 -- The instructions that put a number into a register
 
-u_fits : (rd v : ℕ) → rd < 32 → fits U (with_immediate (plain LUI rd 0 0) (v * 2 ^ 12)) ≡ true
+u_fits : (rd v : ℕ) → rd < 32 → fits U (with_immediate (of_registers LUI rd 0 0) (v * 2 ^ 12)) ≡ true
 unfolding fits
 u_fits rd v h = grind (arith, nat_tests)
 
-i_fits : (rd rs v : ℕ) → rd < 32 → rs < 32 → is_signed 12 v ≡ true → fits I (with_immediate (plain ADDI rd rs 0) v) ≡ true
+i_fits : (rd rs v : ℕ) → rd < 32 → rs < 32 → is_signed 12 v ≡ true → fits I (with_immediate (of_registers ADDI rd rs 0) v) ≡ true
 unfolding fits
 i_fits rd rs v h k g = grind (arith, nat_tests)
 
@@ -140,9 +138,9 @@ lower_fits rd n h =
     let small : n % 2 ^ 12 < 2 ^ 12 = omega arith in
     fit I (lower_of rd n) refl refl (i_fits rd rd (sign_extended 12 (n % 2 ^ 12)) h h (extended_signed (n % 2 ^ 12) small))
 
-pub short_fits : (rd : ℕ) (n : ℤ) → rd < 32 → is_short n ≡ true → IsTrue (well_formed (with_immediate (plain ADDI rd 0 0) (unsigned n)))
+pub short_fits : (rd : ℕ) (n : ℤ) → rd < 32 → is_short n ≡ true → IsTrue (well_formed (with_immediate (of_registers ADDI rd 0 0) (unsigned n)))
 unfolding has_row form_of row_of
-short_fits rd n h g = fit I (with_immediate (plain ADDI rd 0 0) (unsigned n)) refl refl (i_fits rd 0 (unsigned n) h (lit< tt) (short_signed n g))
+short_fits rd n h g = fit I (with_immediate (of_registers ADDI rd 0 0) (unsigned n)) refl refl (i_fits rd 0 (unsigned n) h (lit< tt) (short_signed n g))
 
 pub ruleset pair_fits = (upper_fits, lower_fits)
 

@@ -1,9 +1,9 @@
 -- A line read token by token.
-use Rattle.std.proofs.Common.{◌≡◌, ℕ, Bool, List, [], ◌∷◌, Option, Some, None, Result, Ok, Err, refl, ap}
+use Rattle.std.proofs.Common.{◌≡◌, ℕ, Bool, List, [], ◌∷◌, Some, None, Ok, Err, refl, ap}
 use Rattle.rv_asm.specs.Chains.{◌>>=◌}
 use Rattle.rv_asm.specs.Lines.{labelled, spoken, statement_of, with_label, without_label}
 use Rattle.rv_asm.specs.Statements.{Blank}
-use Rattle.rv_asm.specs.Tokens.{Token, Word, Comma, Colon, Open, Close, before_colon, behind, end, first_word}
+use Rattle.rv_asm.specs.Tokens.{Token, Word, Colon, before_colon, behind, end, first_word}
 use Rattle.rv_asm.specs.declared.bytes.TheConstants.{COLON}
 use Rattle.rv_asm.specs.declared.fault.Fault.TheVariants.{UnknownWord}
 

@@ -1,8 +1,8 @@
 -- Operands read token by token.
-use Rattle.std.proofs.Common.{◌≡◌, ℕ, List, [], ◌∷◌, Option, Some, None, refl}
+use Rattle.std.proofs.Common.{◌≡◌, List, [], ◌∷◌, Some, refl}
 use Rattle.rv_asm.specs.Chains.{◌>>=◌}
 use Rattle.rv_asm.specs.declared.bytes.TheConstants.{COMMA, OPEN, CLOSE}
-use Rattle.rv_asm.specs.Tokens.{Token, Word, Comma, Colon, Open, Close, behind, end, first_word, one_of, two_of, three_of, address_of}
+use Rattle.rv_asm.specs.Tokens.{Token, Word, Comma, Open, Close, behind, end, first_word, one_of, two_of, three_of, address_of}
 
 pub one-chain : (ts : List Token) → one_of ts ≡ (do
   a ← first_word ts

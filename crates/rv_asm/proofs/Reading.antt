@@ -1,7 +1,6 @@
 -- Tokens as they are read from the front of a text.
-use Rattle.std.proofs.Common.{◌⊎◌, ◌≡◌, ℕ, zero, suc, ◌+◌, ◌<◌, ◌≤◌, ◌&&◌, ◌||◌, not, Bool, true, false, cond, eqb, List}
+use Rattle.std.proofs.Common.{◌⊎◌, ◌≡◌, ℕ, suc, ◌+◌, ◌<◌, not, Bool, true, false, cond, eqb, List}
 use Rattle.std.proofs.Common.{[], ◌∷◌, Option, Some, None, length, get_or, ◌-◌, take, drop, length-drop, ap, refl, sym, ◌∙◌, arith, inl, inr}
-use Rattle.std.specs.Prelude.{option_map, IsTrue}
 use Rattle.std.specs.List.{prefix_len}
 use Rattle.std.proofs.lemmas.Bool.{cases_Bool, false≢true, and_parts, and_cases, both_ways, not-true, not-false, or_cases, and_from, ne_eqb, eq-eqb, eqb-true}
 use Rattle.std.proofs.lemmas.List.{take_all}

@@ -1,5 +1,5 @@
 -- The names of the registers by number.
-use Rattle.std.proofs.Common.{◌≡◌, ℕ, zero, suc, ◌<◌, List, [], ◌∷◌, length, map, slice_index_or, find}
+use Rattle.std.proofs.Common.{◌≡◌, ℕ, suc, ◌<◌, List, ◌∷◌, length, map, slice_index_or, find}
 use Rattle.std.proofs.Common.{◌+◌, ◌-◌, ◌≤◌, cond, true, false, Some, None, ap, sym, ◌∙◌, refl, arith}
 use Rattle.std.specs.List.{range_with_len}
 use Rattle.std.specs.Borrow.{Bor}

@@ -3,7 +3,7 @@ use Rattle.std.proofs.Common.{◌≡◌, ℕ, ◌+◌, List, [], ◌∷◌, Opti
 use Rattle.std.specs.Prelude.{option_map}
 use Rattle.std.specs.Option.{option_or}
 use Rattle.rv_asm.specs.Faults.{fault_of, first_fault}
-use Rattle.rv_asm.specs.Layout.{behind_line, passed}
+use Rattle.rv_asm.specs.Layout.{passed}
 use Rattle.rv_asm.specs.Lines.{Line, ended, line_of, lines}
 use Rattle.rv_asm.specs.declared.fault.Fault.{Fault}
 use Rattle.rv_asm.specs.declared.layout.Cursor.{Cursor}

@@ -1,18 +1,16 @@
 -- The parts are as long as the layout says.
-use Rattle.std.proofs.Common.{◌≡◌, ℕ, ◌+◌, not, Bool, true, false, cond, List, [], ◌∷◌, ◌++◌, length}
-use Rattle.std.proofs.Common.{replicate, Option, None, Result, Ok, Err, refl, ap, sym, ◌∙◌, arith, inl, inr, ℤ}
-use Rattle.std.specs.Prelude.{unsigned_abs, option_and_then}
+use Rattle.std.proofs.Common.{◌≡◌, ℕ, ◌+◌, not, true, false, cond, List, length}
+use Rattle.std.proofs.Common.{Option, None, Ok, refl, arith, inl, inr, ℤ}
+use Rattle.std.specs.Prelude.{unsigned_abs}
 use Rattle.std.specs.List.{flat_map}
-use Rattle.std.proofs.lemmas.Bool.{cases_Bool, false≢true, not-true, not-false}
+use Rattle.std.proofs.lemmas.Bool.{cases_Bool, not-true, not-false}
 use Rattle.std.proofs.lemmas.List.{length-replicate}
 use Rattle.elf_write.specs.Code.{op_bytes}
-use Rattle.rv_table.specs.declared.op.Op.{Op}
-use Rattle.rv_asm.specs.Faults.{fault_of, is_out_of_range, target_of}
+use Rattle.rv_asm.specs.Faults.{fault_of, is_out_of_range}
 use Rattle.rv_asm.specs.Layout.{grown, is_short, is_space, passed, size}
 use Rattle.rv_asm.specs.Lines.{Line, stands_in}
 use Rattle.rv_asm.specs.Program.{bytes_of, line_bytes, line_ops, number_into, ops_of}
 use Rattle.rv_asm.specs.Statements.{Statement, Blank, Part, DataWord, DataByte, DataSpace, Ready, WithNumber, WithLabel, NumberInto, AddressInto}
-use Rattle.rv_asm.specs.declared.fault.Fault.{Fault}
 use Rattle.rv_asm.specs.declared.layout.Cursor.{Cursor}
 use Rattle.rv_asm.specs.declared.layout.Place.{Place}
 use Rattle.rv_asm.proofs.Emitting.{in_its_range}

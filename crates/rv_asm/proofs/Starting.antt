@@ -1,17 +1,17 @@
 -- Where `_start` stands in a source without a fault: at an address of the text part, which is an instruction's or its end.
-use Rattle.std.proofs.Common.{◌≡◌, ℕ, ◌+◌, ◌%◌, ◌≤◌, ◌||◌, ◌&&◌, ◌⊎◌, not, Bool, true, false, cond, eqb, List, []}
-use Rattle.std.proofs.Common.{◌∷◌, ◌++◌, Option, Some, None, Result, Ok, Err, refl, ap, sym, ◌∙◌, arith, subst, inl, inr}
-use Rattle.std.specs.Prelude.{bytes_eq, codes, option_and_then, option_map}
+use Rattle.std.proofs.Common.{◌≡◌, ℕ, ◌+◌, ◌%◌, ◌≤◌, ◌||◌, ◌&&◌, not, Bool, true, false, cond, eqb, List, []}
+use Rattle.std.proofs.Common.{◌∷◌, Option, Some, None, Result, Ok, Err, refl, ap, sym, ◌∙◌, arith, subst, inl, inr}
+use Rattle.std.specs.Prelude.{bytes_eq, codes, option_and_then}
 use Rattle.std.specs.Option.{option_or}
-use Rattle.std.proofs.lemmas.Bool.{cases_Bool, eqb-true, eq-eqb, false≢true, not-false, not-true, or_parts}
+use Rattle.std.proofs.lemmas.Bool.{cases_Bool, eqb-true, eq-eqb, not-false, or_parts}
 use Rattle.std.proofs.lemmas.Slice.Eq.{bytes_eq-Decides}
 use Rattle.elf_write.specs.declared.layout.TheConstants.{TEXT_BASE}
-use Rattle.rv_asm.specs.Faults.{fault_of, first_fault, is_again, is_bad_place, is_missing, is_out_of_range, is_start, later_fault, misses, target_of}
+use Rattle.rv_asm.specs.Faults.{fault_of, first_fault, is_bad_place, is_out_of_range, is_start, later_fault, misses, target_of}
 use Rattle.rv_asm.specs.Layout.{address, behind_line, defined, definitions, end_of, first_of, grown, named, passed, place_at, size}
 use Rattle.rv_asm.specs.Lines.{Line, line_of}
 use Rattle.rv_asm.specs.Statements.{Statement}
 use Rattle.rv_asm.specs.declared.fault.Fault.{Fault}
-use Rattle.rv_asm.specs.declared.fault.Fault.TheVariants.{OutOfRange, DefinedTwice, Undefined}
+use Rattle.rv_asm.specs.declared.fault.Fault.TheVariants.{OutOfRange}
 use Rattle.rv_asm.specs.declared.layout.Cursor.{Cursor}
 use Rattle.rv_asm.specs.declared.layout.Place.{Place}
 use Rattle.rv_asm.proofs.LayingOut.{bytes_eq-sym, first_of-append}

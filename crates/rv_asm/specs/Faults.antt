@@ -92,4 +92,5 @@ fault_of places c k (Ok line) = later_fault (option_and_then places line.name) (
 unfoldable pub first_fault : (List ℕ → Option Place) → Cursor → ℕ → List (List ℕ) → Option (ℕ × Fault)
 first_fault places c k [] = None
 first_fault places c k (bytes ∷ rest) =
-    option_or (option_map (λ fault. (k, fault)) (fault_of places c k (line_of c.in_data bytes))) (first_fault places (behind_line c bytes) (k + 1) rest)
+    option_or (option_map (λ fault. (k, fault)) (fault_of places c k (line_of c.in_data bytes)))
+    (first_fault places (behind_line c bytes) (k + 1) rest)

@@ -1,7 +1,7 @@
 -- What the first word of a statement can be.
-use Rattle.std.specs.Prelude.{ℕ, Bool, true, false, not, List, [], ◌∷◌, bytes_eq, codes, find, Option, Some, None, option_map, if◌then◌else◌}
+use Rattle.std.specs.Prelude.{ℕ, Bool, true, false, List, [], ◌∷◌, bytes_eq, codes, find, Option, Some, None, option_map, if◌then◌else◌}
 use Rattle.std.specs.Option.{option_or}
-use Rattle.rv_table.specs.Rows.{Row, row_named}
+use Rattle.rv_table.specs.Rows.{row_named}
 use Rattle.rv_table.specs.declared.form.Form.{Form}
 use Rattle.rv_table.specs.declared.form.Form.TheVariants.{Counter}
 use Rattle.rv_asm.specs.Chains.{◌>>=◌}

@@ -1,5 +1,5 @@
 -- Registers and labels.
-use Rattle.std.specs.Prelude.{ℕ, ◌+◌, ◌==◌, ◌&&◌, ◌||◌, Bool, nat_le, nat_lt, not, if◌then◌else◌, List}
+use Rattle.std.specs.Prelude.{ℕ, ◌==◌, ◌&&◌, ◌||◌, Bool, nat_le, not, if◌then◌else◌, List}
 use Rattle.std.specs.Prelude.{[], ◌∷◌, length, bytes_eq, codes, find, slice_index, slice_index_or, Option, Some, None}
 use Rattle.std.specs.List.{list_all, range_with_len}
 use Rattle.rv_table.specs.Texts.{register_name}

@@ -3,7 +3,7 @@ use Rattle.std.specs.Prelude.{ℕ, ◌+◌, ◌-◌, ◌*◌, ◌/◌, ◌%◌, 
 use Rattle.std.specs.Prelude.{◌++◌, codes, replicate, Option, Some, None, option_and_then, Result, Ok, Err, ℤ, unsigned_abs}
 use Rattle.std.specs.Int.{cast_unsigned, to_le_bytes, w32, w64}
 use Rattle.elf_write.specs.declared.layout.TheConstants.{TEXT_BASE}
-use Rattle.rv_table.specs.Operations.{form_of}
+use Rattle.rv_table.specs.Operations.{form_of, of_registers}
 use Rattle.rv_table.specs.Words.{sign_extended}
 use Rattle.rv_table.specs.declared.codes.TheConstants.{ADDI, LUI}
 use Rattle.rv_table.specs.declared.form.Form.{Form}
@@ -12,7 +12,7 @@ use Rattle.rv_table.specs.declared.op.Op.{Op}
 use Rattle.rv_asm.specs.Faults.{target_of}
 use Rattle.rv_asm.specs.Layout.{address, behind_line, is_short}
 use Rattle.rv_asm.specs.Lines.{Line, line_of}
-use Rattle.rv_asm.specs.Statements.{Statement, DataWord, DataByte, DataSpace, Ready, WithNumber, WithLabel, NumberInto, AddressInto, plain}
+use Rattle.rv_asm.specs.Statements.{Statement, DataWord, DataByte, DataSpace, Ready, WithNumber, WithLabel, NumberInto, AddressInto}
 use Rattle.rv_asm.specs.declared.fault.Fault.{Fault}
 use Rattle.rv_asm.specs.declared.layout.Cursor.{Cursor}
 use Rattle.rv_asm.specs.declared.layout.Place.{Place}
@@ -35,17 +35,17 @@ offset origin goal = if nat_le origin goal then goal - origin else 2 ^ 32 - (ori
 
 -- LUI and ADDI that put a number into a register: ADDI adds the rest, from -2048 to 2047, to what LUI puts there
 abbrev pub upper_of : ℕ → ℕ → Op
-upper_of rd n = with_immediate (plain LUI rd 0 0) ((n + 0x800) / 2 ^ 12 % 2 ^ 20 * 2 ^ 12)
+upper_of rd n = with_immediate (of_registers LUI rd 0 0) ((n + 0x800) / 2 ^ 12 % 2 ^ 20 * 2 ^ 12)
 
 abbrev pub lower_of : ℕ → ℕ → Op
-lower_of rd n = with_immediate (plain ADDI rd rd 0) (sign_extended 12 (n % 2 ^ 12))
+lower_of rd n = with_immediate (of_registers ADDI rd rd 0) (sign_extended 12 (n % 2 ^ 12))
 
 abbrev pub pair : ℕ → ℕ → List Op
 pair rd n = upper_of rd n ∷ lower_of rd n ∷ []
 
 -- one instruction is enough for a short number
 abbrev pub number_into : ℕ → ℤ → List Op
-number_into rd n = if is_short n then with_immediate (plain ADDI rd 0 0) (unsigned n) ∷ [] else pair rd (unsigned n)
+number_into rd n = if is_short n then with_immediate (of_registers ADDI rd 0 0) (unsigned n) ∷ [] else pair rd (unsigned n)
 
 -- the instructions of a statement at a byte address, whose label is at `goal`
 unfoldable pub ops_of : ℕ → ℕ → Statement → List Op

@@ -1,6 +1,6 @@
 -- Statements: what the keyword and the operands of a line mean.
 use Rattle.std.specs.Prelude.{ℕ, ℤ, Bool, true, false, if◌then◌else◌, List, Option, Some, None}
-use Rattle.rv_table.specs.Operations.{form_of, has_row, operation_of}
+use Rattle.rv_table.specs.Operations.{form_of, of_registers, operation_of}
 use Rattle.rv_table.specs.Texts.{names_address}
 use Rattle.rv_table.specs.declared.codes.TheConstants.{ADDI, BEQ, BNE, JAL, JALR}
 use Rattle.rv_table.specs.declared.form.Form.{Form}
@@ -32,10 +32,6 @@ pub data Statement : Type 0 where
   NumberInto : (rd : ℕ) → (n : ℤ) → Statement
   AddressInto : (rd : ℕ) → (target : List ℕ) → Statement
 
--- an instruction without an immediate
-abbrev pub plain : ℕ → ℕ → ℕ → ℕ → Op
-plain code rd rs1 rs2 = record { code = code; rd = rd; rs1 = rs1; rs2 = rs2; imm = 0 }
-
 -- Instructions of the word table, by the form of their row
 
 -- rd, n
@@ -44,7 +40,7 @@ upper code ts = do
   o ← two_of ts
   rd ← register o.0
   n ← number o.1
-  Some (WithNumber (plain code rd 0 0) n)
+  Some (WithNumber (of_registers code rd 0 0) n)
 
 -- rd, label
 unfoldable pub jump : ℕ → List Token → Option Statement
@@ -52,7 +48,7 @@ jump code ts = do
   o ← two_of ts
   rd ← register o.0
   target ← label o.1
-  Some (WithLabel (plain code rd 0 0) target)
+  Some (WithLabel (of_registers code rd 0 0) target)
 
 -- rd, rs1, n
 unfoldable pub immediate : ℕ → List Token → Option Statement
@@ -61,7 +57,7 @@ immediate code ts = do
   rd ← register o.0
   rs1 ← register o.1
   n ← number o.2
-  Some (WithNumber (plain code rd rs1 0) n)
+  Some (WithNumber (of_registers code rd rs1 0) n)
 
 -- rd, n(rs1)
 unfoldable pub load : ℕ → List Token → Option Statement
@@ -70,7 +66,7 @@ load code ts = do
   rd ← register o.0
   n ← number o.1
   rs1 ← register o.2
-  Some (WithNumber (plain code rd rs1 0) n)
+  Some (WithNumber (of_registers code rd rs1 0) n)
 
 -- rs2, n(rs1)
 unfoldable pub store : ℕ → List Token → Option Statement
@@ -79,7 +75,7 @@ store code ts = do
   rs2 ← register o.0
   n ← number o.1
   rs1 ← register o.2
-  Some (WithNumber (plain code 0 rs1 rs2) n)
+  Some (WithNumber (of_registers code 0 rs1 rs2) n)
 
 -- rs1, rs2, label
 unfoldable pub branch : ℕ → List Token → Option Statement
@@ -88,7 +84,7 @@ branch code ts = do
   rs1 ← register o.0
   rs2 ← register o.1
   target ← label o.2
-  Some (WithLabel (plain code 0 rs1 rs2) target)
+  Some (WithLabel (of_registers code 0 rs1 rs2) target)
 
 -- rd, rs1, rs2
 unfoldable pub registers : ℕ → List Token → Option Statement
@@ -97,7 +93,7 @@ registers code ts = do
   rd ← register o.0
   rs1 ← register o.1
   rs2 ← register o.2
-  Some (Ready (plain code rd rs1 rs2))
+  Some (Ready (of_registers code rd rs1 rs2))
 
 -- an address for JALR and the loads, a number for the others
 abbrev pub with_number : ℕ → List Token → Option Statement
@@ -117,9 +113,9 @@ by_form B code ts = branch code ts
 by_form S code ts = store code ts
 by_form Shift code ts = immediate code ts
 by_form R code ts = registers code ts
-by_form SystemCall code ts = bare (Ready (plain code 0 A7 A0)) ts
+by_form SystemCall code ts = bare (Ready (of_registers code 0 A7 A0)) ts
 by_form Counter code ts = None
-by_form NoFields code ts = bare (Ready (plain code 0 0 0)) ts
+by_form NoFields code ts = bare (Ready (of_registers code 0 0 0)) ts
 
 unfoldable pub instruction : ℕ → List Token → Option Statement
 instruction code ts = by_form (form_of code) code ts
@@ -132,21 +128,21 @@ move_register ts = do
   o ← two_of ts
   rd ← register o.0
   rs ← register o.1
-  Some (Ready (plain ADDI rd rs 0))
+  Some (Ready (of_registers ADDI rd rs 0))
 
 -- label, with the return address in rd
 unfoldable pub jump_to : ℕ → List Token → Option Statement
 jump_to rd ts = do
   o ← one_of ts
   target ← label o
-  Some (WithLabel (plain JAL rd 0 0) target)
+  Some (WithLabel (of_registers JAL rd 0 0) target)
 
 -- rs
 unfoldable pub jump_register : List Token → Option Statement
 jump_register ts = do
   o ← one_of ts
   rs ← register o
-  Some (Ready (plain JALR 0 rs 0))
+  Some (Ready (of_registers JALR 0 rs 0))
 
 -- rs, label: a comparison with register 0
 unfoldable pub branch_zero : ℕ → List Token → Option Statement
@@ -154,7 +150,7 @@ branch_zero code ts = do
   o ← two_of ts
   rs ← register o.0
   target ← label o.1
-  Some (WithLabel (plain code 0 rs 0) target)
+  Some (WithLabel (of_registers code 0 rs 0) target)
 
 -- rd, n
 unfoldable pub load_immediate : List Token → Option Statement
@@ -196,12 +192,12 @@ data_space ts = do
 -- what a keyword and the tokens behind it mean
 unfoldable pub statement_by : Keyword → List Token → Option Statement
 statement_by (Instruction code) ts = instruction code ts
-statement_by Nop ts = bare (Ready (plain ADDI 0 0 0)) ts
+statement_by Nop ts = bare (Ready (of_registers ADDI 0 0 0)) ts
 statement_by Move ts = move_register ts
 statement_by Jump ts = jump_to 0 ts
 statement_by Call ts = jump_to RA ts
 statement_by JumpRegister ts = jump_register ts
-statement_by Return ts = bare (Ready (plain JALR 0 RA 0)) ts
+statement_by Return ts = bare (Ready (of_registers JALR 0 RA 0)) ts
 statement_by BranchIfZero ts = branch_zero BEQ ts
 statement_by BranchIfNotZero ts = branch_zero BNE ts
 statement_by LoadImmediate ts = load_immediate ts

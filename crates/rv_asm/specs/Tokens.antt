@@ -1,5 +1,5 @@
 -- The tokens of a line: words, commas, colons and parentheses. Blanks only separate them.
-use Rattle.std.specs.Prelude.{ℕ, Bool, true, false, ◌==◌, if◌then◌else◌, List, [], ◌∷◌, drop, Option, Some, None}
+use Rattle.std.specs.Prelude.{ℕ, Bool, false, ◌==◌, if◌then◌else◌, List, [], ◌∷◌, drop, Option, Some, None}
 use Rattle.std.specs.List.{prefix_len}
 use Rattle.rv_asm.specs.Bytes.{is_blank, is_mark, is_word_byte}
 use Rattle.rv_asm.specs.declared.bytes.TheConstants.{COMMA, COLON, OPEN, CLOSE}

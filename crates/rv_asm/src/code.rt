@@ -18,7 +18,7 @@ use crate::fault::Fault;
 use crate::layout::{Cursor, Place, SOURCE_ROOM, address, is_short, passed};
 use crate::line::{Line, line_of, next_line};
 use crate::search::{find_any, target_of};
-use crate::statement::{Statement, plain};
+use crate::statement::Statement;
 use elf_write::put_op;
 use rv_table::{Form, Op, codes, form_of};
 use std::alloc::{AllocError, Global};
@@ -74,7 +74,10 @@ fn upper_of(rd: u8, n: u64) -> Op
     ensures { result ≡ spec.upper_of rd n }
 {
     let upper = (n + 0x800) / 0x1000 % 0x10_0000;
-    with_immediate(plain(codes::LUI, rd, 0, 0), upper as u32 * 0x1000)
+    with_immediate(
+        Op::of_registers(codes::LUI, rd, 0, 0),
+        upper as u32 * 0x1000,
+    )
 }
 
 fn signed_12(n: u32) -> u32
@@ -89,7 +92,7 @@ fn lower_of(rd: u8, n: u64) -> Op
     ensures { result ≡ spec.lower_of rd n }
 {
     let lower = (n % 0x1000) as u32;
-    with_immediate(plain(codes::ADDI, rd, rd, 0), signed_12(lower))
+    with_immediate(Op::of_registers(codes::ADDI, rd, rd, 0), signed_12(lower))
 }
 
 /// Puts an instruction with a number for its immediate.
@@ -139,7 +142,7 @@ fn put_number_into(text_part: &mut Vec<u8>, rd: u8, n: i64) -> Result<(), AllocE
     if is_short(n) {
         put_op(
             text_part,
-            &with_immediate(plain(codes::ADDI, rd, 0, 0), unsigned(n)),
+            &with_immediate(Op::of_registers(codes::ADDI, rd, 0, 0), unsigned(n)),
         )
     } else {
         put_pair(text_part, rd, u64::from(unsigned(n)))

@@ -48,19 +48,6 @@ pub enum Statement<'s> {
     AddressInto(u8, &'s [u8]),
 }
 
-/// An instruction without an immediate.
-pub fn plain(code: u8, rd: u8, rs1: u8, rs2: u8) -> Op
-    ensures { result ≡ spec.plain code rd rs1 rs2 }
-{
-    Op {
-        code,
-        rd,
-        rs1,
-        rs2,
-        imm: 0,
-    }
-}
-
 /// rd, n
 #[tactic(auto, unfolding(crate::specs::Statements::upper), using(crate::proofs::Sound::sound_u))]
 fn upper<'s>(code: u8, text: &'s [u8]) -> Option<Statement<'s>>
@@ -70,7 +57,7 @@ fn upper<'s>(code: u8, text: &'s [u8]) -> Option<Statement<'s>>
     ensures sound { IfSome result (λ s. IsSound (shown s)) }
 {
     let (rd, n) = two(text)?;
-    let op = plain(code, register(rd)?, 0, 0);
+    let op = Op::of_registers(code, register(rd)?, 0, 0);
     Some(Statement::WithNumber(op, number(n)?))
 }
 
@@ -83,7 +70,7 @@ fn jump<'s>(code: u8, text: &'s [u8]) -> Option<Statement<'s>>
     ensures sound { IfSome result (λ s. IsSound (shown s)) }
 {
     let (rd, target) = two(text)?;
-    let op = plain(code, register(rd)?, 0, 0);
+    let op = Op::of_registers(code, register(rd)?, 0, 0);
     Some(Statement::WithLabel(op, label(target)?))
 }
 
@@ -96,7 +83,7 @@ fn immediate<'s>(code: u8, text: &'s [u8]) -> Option<Statement<'s>>
     ensures sound { IfSome result (λ s. IsSound (shown s)) }
 {
     let (rd, rs1, n) = three(text)?;
-    let op = plain(code, register(rd)?, register(rs1)?, 0);
+    let op = Op::of_registers(code, register(rd)?, register(rs1)?, 0);
     Some(Statement::WithNumber(op, number(n)?))
 }
 
@@ -112,7 +99,7 @@ fn load<'s>(code: u8, text: &'s [u8]) -> Option<Statement<'s>>
     let rd = register(rd)?;
     let n = number(n)?;
     let rs1 = register(rs1)?;
-    Some(Statement::WithNumber(plain(code, rd, rs1, 0), n))
+    Some(Statement::WithNumber(Op::of_registers(code, rd, rs1, 0), n))
 }
 
 /// rs2, n(rs1)
@@ -127,7 +114,7 @@ fn store<'s>(code: u8, text: &'s [u8]) -> Option<Statement<'s>>
     let rs2 = register(rs2)?;
     let n = number(n)?;
     let rs1 = register(rs1)?;
-    Some(Statement::WithNumber(plain(code, 0, rs1, rs2), n))
+    Some(Statement::WithNumber(Op::of_registers(code, 0, rs1, rs2), n))
 }
 
 /// rs1, rs2, label
@@ -139,7 +126,7 @@ fn branch<'s>(code: u8, text: &'s [u8]) -> Option<Statement<'s>>
     ensures sound { IfSome result (λ s. IsSound (shown s)) }
 {
     let (rs1, rs2, target) = three(text)?;
-    let op = plain(code, 0, register(rs1)?, register(rs2)?);
+    let op = Op::of_registers(code, 0, register(rs1)?, register(rs2)?);
     Some(Statement::WithLabel(op, label(target)?))
 }
 
@@ -152,7 +139,7 @@ fn registers<'s>(code: u8, text: &'s [u8]) -> Option<Statement<'s>>
     ensures sound { IfSome result (λ s. IsSound (shown s)) }
 {
     let (rd, rs1, rs2) = three(text)?;
-    let op = plain(code, register(rd)?, register(rs1)?, register(rs2)?);
+    let op = Op::of_registers(code, register(rd)?, register(rs1)?, register(rs2)?);
     Some(Statement::Ready(op))
 }
 
@@ -205,8 +192,8 @@ fn instruction<'s>(code: u8, text: &'s [u8]) -> Option<Statement<'s>>
         Form::S => store(code, text),
         Form::Shift => immediate(code, text),
         Form::R => registers(code, text),
-        Form::Call => bare_op(plain(code, 0, A7, A0), text),
-        Form::NoFields => bare_op(plain(code, 0, 0, 0), text),
+        Form::Call => bare_op(Op::of_registers(code, 0, A7, A0), text),
+        Form::NoFields => bare_op(Op::of_registers(code, 0, 0, 0), text),
         Form::Counter => None,
     }
 }
@@ -218,7 +205,7 @@ fn move_register<'s>(text: &'s [u8]) -> Option<Statement<'s>>
     ensures sound { IfSome result (λ s. IsSound (shown s)) }
 {
     let (rd, rs) = two(text)?;
-    let op = plain(codes::ADDI, register(rd)?, register(rs)?, 0);
+    let op = Op::of_registers(codes::ADDI, register(rd)?, register(rs)?, 0);
     Some(Statement::Ready(op))
 }
 
@@ -230,7 +217,7 @@ fn jump_to<'s>(rd: u8, text: &'s [u8]) -> Option<Statement<'s>>
     ensures sound { IfSome result (λ s. IsSound (shown s)) }
 {
     let target = label(one(text)?)?;
-    Some(Statement::WithLabel(plain(codes::JAL, rd, 0, 0), target))
+    Some(Statement::WithLabel(Op::of_registers(codes::JAL, rd, 0, 0), target))
 }
 
 /// rs
@@ -240,7 +227,7 @@ fn jump_register<'s>(text: &'s [u8]) -> Option<Statement<'s>>
     ensures sound { IfSome result (λ s. IsSound (shown s)) }
 {
     let rs = register(one(text)?)?;
-    Some(Statement::Ready(plain(codes::JALR, 0, rs, 0)))
+    Some(Statement::Ready(Op::of_registers(codes::JALR, 0, rs, 0)))
 }
 
 /// rs, label: a comparison with register 0
@@ -252,7 +239,7 @@ fn branch_zero<'s>(code: u8, text: &'s [u8]) -> Option<Statement<'s>>
 {
     let (rs, target) = two(text)?;
     let rs = register(rs)?;
-    Some(Statement::WithLabel(plain(code, 0, rs, 0), label(target)?))
+    Some(Statement::WithLabel(Op::of_registers(code, 0, rs, 0), label(target)?))
 }
 
 /// rd, n
@@ -321,12 +308,12 @@ pub fn statement_by<'s>(keyword: Keyword, text: &'s [u8]) -> Option<Statement<'s
 {
     match keyword {
         Keyword::Instruction(code) => instruction(code, text),
-        Keyword::Nop => bare_op(plain(codes::ADDI, 0, 0, 0), text),
+        Keyword::Nop => bare_op(Op::of_registers(codes::ADDI, 0, 0, 0), text),
         Keyword::Move => move_register(text),
         Keyword::Jump => jump_to(0, text),
         Keyword::Call => jump_to(RA, text),
         Keyword::JumpRegister => jump_register(text),
-        Keyword::Return => bare_op(plain(codes::JALR, 0, RA, 0), text),
+        Keyword::Return => bare_op(Op::of_registers(codes::JALR, 0, RA, 0), text),
         Keyword::BranchIfZero => branch_zero(codes::BEQ, text),
         Keyword::BranchIfNotZero => branch_zero(codes::BNE, text),
         Keyword::LoadImmediate => load_immediate(text),

@@ -8,7 +8,6 @@ use Rattle.rv_table.specs.Actions.{access_of, judged, judged_by, some_executable
 use Rattle.rv_table.specs.declared.action.Access.{Access}
 use Rattle.rv_table.specs.declared.action.Action.{Action}
 use Rattle.rv_table.specs.declared.operation.StoreKind.{StoreKind}
-use Rattle.rv_table.specs.declared.operation.StoreKind.TheVariants.{Sb, Sh, Sw}
 use Rattle.rv_table.specs.declared.action.Action.TheVariants.{Stores}
 
 -- a place in RAM leaves room for four bytes
@@ -16,12 +15,11 @@ pub word_below : (image : LoadedImage) (address : ℕ) → IsImage image → wor
 unfolding word_in_ram in_ram
 word_below image address loaded h = grind (arith, nat_tests, loaded.aligned, loaded.blocks, loaded.below)
 
--- one, two or four bytes
-any_of : (image : LoadedImage) (x : ℕ) (kind : StoreKind) → any_executable image x (store_size kind) ≡ some_executable (executable image) x (store_size kind)
+-- the bytes of a store, one by one
+any_executable_some : (image : LoadedImage) (kind : StoreKind) (x : ℕ)
+    → any_executable image x (store_size kind) ≡ some_executable (executable image) x (store_size kind)
 unfolding any_executable
-any_of image x Sb = grind (arith, nat_tests, executable image x)
-any_of image x Sh = grind (arith, nat_tests, executable image x, executable image (x + 1))
-any_of image x Sw = grind (arith, nat_tests, executable image x, executable image (x + 1), executable image (x + 2), executable image (x + 3))
+any_executable_some image kind x = grind (arith, nat_tests)
 
 pub access_size : (action : Action) (access : Access) → access_of action ≡ Some access → access.size ≤ 4
 unfolding access_of
@@ -29,7 +27,7 @@ access_size action access e = grind (arith, nat_tests)
 
 judged_store : (image : LoadedImage) (kind : StoreKind) (x y : ℕ) → judged_by (word_in_ram image (x / 4)) (word_in_ram image (x / 4) && any_executable image x (store_size kind)) (Stores kind x y) ≡ judged (word_in_ram image) (executable image) (Stores kind x y)
 unfolding judged judged_by
-judged_store image kind x y = rw (any_of image x kind) (grind (arith, nat_tests))
+judged_store image kind x y = rw (any_executable_some image kind x) (grind (arith, nat_tests))
 
 -- judged by what the program asks of the action's own access
 pub allowed_at : (image : LoadedImage) (action : Action) (access : Access) → access_of action ≡ Some access → judged_by (word_in_ram image (access.address / 4)) (word_in_ram image (access.address / 4) && (access.writes && any_executable image access.address access.size)) action ≡ judged (word_in_ram image) (executable image) action

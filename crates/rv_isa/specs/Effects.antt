@@ -2,7 +2,8 @@
 use Rattle.std.specs.Prelude.{◌≡◌, ℕ, ◌+◌, ◌-◌, ◌*◌, ◌/◌, ◌%◌, ◌^◌, ◌<◌, ◌==◌, ◌&&◌, ◌⊎◌, nat_le, nat_lt, IsTrue, Option, Some, None, if◌then◌else◌}
 use Rattle.std.specs.Option.{ForSome}
 use Rattle.elf_load.specs.Image.{LoadedImage, in_ram}
-use Rattle.rv_isa.specs.Instruction.{State, reg, put_reg, given, end_of, with_byte, first_clock, later_clocks, next_count, action_in, completed, op_at}
+use Rattle.rv_isa.specs.Instruction.{State, reg, put_reg, given, end_of, with_byte, first_clock, later_clocks, next_count}
+use Rattle.rv_isa.specs.Instruction.{action_in, completed, op_at}
 use Rattle.rv_isa.specs.declared.effect.Effect.{Effect}
 use Rattle.rv_isa.specs.declared.effect.Retired.{Retired}
 use Rattle.rv_table.specs.Accesses.{load_size, store_size, byte_of}

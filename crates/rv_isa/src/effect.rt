@@ -42,7 +42,7 @@ pub struct Retired {
 }
 
 /// The register that an action writes, or 0.
-pub(crate) fn written_register(action: &Action) -> u8
+pub fn written_register(action: &Action) -> u8
     ensures { result ≡ table.written_register action.now }
 {
     match *action {
@@ -75,8 +75,8 @@ pub(crate) fn store_of(action: &Action) -> Option<(u32, u8, u32)>
     }
 }
 
-/// The byte that an action puts.
-pub(crate) fn byte_put(action: &Action) -> Option<u8>
+/// The byte that an action puts, the low one of the register's value, or `None`.
+pub fn byte_put(action: &Action) -> Option<u8>
     ensures { result ≡ table.byte_put action.now }
 {
     match *action {
@@ -85,8 +85,8 @@ pub(crate) fn byte_put(action: &Action) -> Option<u8>
     }
 }
 
-/// How an action ends the run.
-pub(crate) fn end_of(action: &Action) -> Option<End>
+/// How an action ends the run, or `None` where it doesn't.
+pub fn end_of(action: &Action) -> Option<End>
     ensures { result ≡ instruction.end_of action.now }
 {
     match *action {

@@ -8,7 +8,7 @@ mod runs;
 pub mod trace;
 
 pub use arch::Arch;
-pub use effect::{Effect, Retired, access_law};
+pub use effect::{Effect, Retired, access_law, byte_put, end_of, written_register};
 pub use error::IsaError;
 pub use runs::{run, run_clocked, words_law};
 pub use trace::Trace;

@@ -1,10 +1,11 @@
 -- The word of an operation decodes to it: the bits that its row fixes give its code, and the others its fields.
-use Rattle.std.proofs.Common.{◌≡◌, ℕ, ◌+◌, ◌<◌, ◌^◌, ◌==◌, ◌||◌, ◌&&◌, Bool, true, false, ap, sym, ◌∙◌, refl, lit<, subst}
+use Rattle.std.proofs.Common.{◌≡◌, ℕ, ◌+◌, ◌<◌, ◌^◌, ◌==◌, ◌||◌, ◌&&◌, Bool, true, false, IsTrue, ap, sym, ◌∙◌, refl, lit<, subst, arith}
 use Rattle.std.proofs.lemmas.Bool.{and_parts, eqb-true}
+use Rattle.std.proofs.lemmas.Bool.Decides.{nat_tests}
 use Rattle.rv_table.proofs.Forms.{Encodes, encoded_u, encoded_j, encoded_i, encoded_b, encoded_s, encoded_shift, encoded_r, encoded_call, encoded_bare, encoded_counter}
 use Rattle.rv_table.proofs.Lawful.{RowLaw, row_lawful}
 use Rattle.rv_table.specs.Codes.{code_of, field_bits, fixed_bits, word_of}
-use Rattle.rv_table.specs.Operations.{form_of, has_row}
+use Rattle.rv_table.specs.Operations.{form_of, has_row, of_registers}
 use Rattle.rv_table.specs.Rows.{has_word, row_of}
 use Rattle.rv_table.specs.Words.{decode, row_of_word}
 use Rattle.rv_table.specs.WellFormed.{fits, well_formed}
@@ -89,6 +90,15 @@ well_formed-row op h = go (op.code == 0) (has_row op.code) h
     go true u e = refl
     go false true e = refl
     go false false e = absurd cc
+
+-- and so an operation whose fields fit the form of its row
+pub fit : (form : Form) (op : Op) → has_row op.code ≡ true → form_of op.code ≡ form → fits form op ≡ true → IsTrue (well_formed op)
+fit form op row is h = well_formed-row op row ∙ ap (λ f. fits f op) is ∙ h
+
+-- three registers fit the form that has just them
+pub fits_r : (code rd rs1 rs2 : ℕ) → rd < 32 → rs1 < 32 → rs2 < 32 → fits R (of_registers code rd rs1 rs2) ≡ true
+unfolding fits
+fits_r code rd rs1 rs2 p q r = grind (arith, nat_tests)
 
 pub word_of-below : (op : Op) → well_formed op ≡ true → op.imm < 2 ^ 32 → word_of op < 2 ^ 32
 unfolding word_of
