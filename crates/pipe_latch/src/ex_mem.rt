@@ -27,13 +27,15 @@ pub struct ExMem {
 
 impl Model for ExMem {
     ghost use Rattle.std.specs.Prelude.{◌^◌, ◌<◌};
+    ghost use Rattle.pipe_latch.specs.ExecutedBits.{width};
     ghost use Rattle.pipe_latch.specs.Latches.{ExecutedLatch};
+    ghost use Rattle.pipe_latch.specs.declared.ex_mem.ExMemField.TheVariants.{Kind, Rd, Cause};
 
     ghost Value = { ExecutedLatch };
 
     ghost view = { λ d. record { valid = d.valid; kind = d.kind; rd = d.rd; x = d.x; y = d.y; cause = d.cause } };
 
-    ghost invariant = { λ d. (d.kind < 2 ^ 5) × (d.rd < 2 ^ 5) × (d.cause < 2 ^ 4) };
+    ghost invariant = { λ d. (d.kind < 2 ^ width Kind) × (d.rd < 2 ^ width Rd) × (d.cause < 2 ^ width Cause) };
 
     ghost inverse = { λ d. record { valid = d.valid; kind = d.kind; rd = d.rd; x = d.x; y = d.y; cause = d.cause } };
 }

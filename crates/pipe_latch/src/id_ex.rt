@@ -32,13 +32,16 @@ pub struct IdEx {
 
 impl Model for IdEx {
     ghost use Rattle.std.specs.Prelude.{◌^◌, ◌<◌};
+    ghost use Rattle.pipe_latch.specs.DecodedBits.{width};
     ghost use Rattle.pipe_latch.specs.Latches.{DecodedLatch};
+    ghost use Rattle.pipe_latch.specs.declared.id_ex.IdExField.TheVariants.{Pc, Op, Rd, Rs1, Rs2, Count};
 
     ghost Value = { DecodedLatch };
 
     ghost view = { λ d. record { valid = d.valid; pc = d.pc; op = d.op; rd = d.rd; rs1 = d.rs1; rs2 = d.rs2; a = d.a; b = d.b; imm = d.imm; count = d.count } };
 
-    ghost invariant = { λ d. (d.pc < 2 ^ 30) × (d.op < 2 ^ 6) × (d.rd < 2 ^ 5) × (d.rs1 < 2 ^ 5) × (d.rs2 < 2 ^ 5) × (d.count < 2 ^ 5) };
+    ghost invariant = { λ d. (d.pc < 2 ^ width Pc) × (d.op < 2 ^ width Op) × (d.rd < 2 ^ width Rd)
+        × (d.rs1 < 2 ^ width Rs1) × (d.rs2 < 2 ^ width Rs2) × (d.count < 2 ^ width Count) };
 
     ghost inverse = { λ d. record { valid = d.valid; pc = d.pc; op = d.op; rd = d.rd; rs1 = d.rs1; rs2 = d.rs2; a = d.a; b = d.b; imm = d.imm; count = d.count } };
 }

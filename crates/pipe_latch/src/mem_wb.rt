@@ -15,13 +15,15 @@ pub struct MemWb {
 
 impl Model for MemWb {
     ghost use Rattle.std.specs.Prelude.{◌^◌, ◌<◌};
+    ghost use Rattle.pipe_latch.specs.ResultBits.{width};
     ghost use Rattle.pipe_latch.specs.Latches.{ResultLatch};
+    ghost use Rattle.pipe_latch.specs.declared.mem_wb.MemWbField.TheVariants.{Rd};
 
     ghost Value = { ResultLatch };
 
     ghost view = { λ d. record { rd = d.rd; value = d.value } };
 
-    ghost invariant = { λ d. d.rd < 2 ^ 5 };
+    ghost invariant = { λ d. d.rd < 2 ^ width Rd };
 
     ghost inverse = { λ d. record { rd = d.rd; value = d.value } };
 }
