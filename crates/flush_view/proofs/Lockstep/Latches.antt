@@ -86,13 +86,16 @@ fate-empty : (d : DecodedLatch) (npc : ℕ) (m : Action) (w : ResultLatch) (goes
 unfolding fate_of
 fate-empty d npc m w goes is = rw is refl
 
-fate-read : (d : DecodedLatch) (npc : ℕ) (m : Action) (w : ResultLatch) (goes : Bool) → fate_of d npc m (read_of_result w) goes ≡ fate_of d npc m w goes
+fate-read : (d : DecodedLatch) (npc : ℕ) (m : Action) (w : ResultLatch) (goes : Bool)
+    → fate_of d npc m (read_of_result w) goes ≡ fate_of d npc m w goes
 unfolding fate_of operand_b
 fate-read d npc m w goes = rw (operand-read m w d.rs1 d.a, operand-read m w d.rs2 d.b) refl
 
 -- so what becomes of it is the same, and with it what is computed from it, where an empty ID/EX isn't read
-pub same-by_d : {A : Type 0} (g : Fate → DecodedLatch → A) (d e : DecodedLatch) (npc : ℕ) (m : Action) (v w : ResultLatch) (goes : Bool) → SameDecoded d e
-    → read_of_result v ≡ read_of_result w → ((x y : DecodedLatch) → g Absent x ≡ g Absent y) → g (fate_of d npc m v goes) d ≡ g (fate_of e npc m w goes) e
+pub same-by_d : {A : Type 0} (g : Fate → DecodedLatch → A) (d e : DecodedLatch) (npc : ℕ) (m : Action) (v w : ResultLatch) (goes : Bool)
+    → SameDecoded d e
+    → read_of_result v ≡ read_of_result w → ((x y : DecodedLatch) → g Absent x ≡ g Absent y)
+    → g (fate_of d npc m v goes) d ≡ g (fate_of e npc m w goes) e
 same-by_d g d e npc m v w goes (Same is) same apart =
     ap (λ f. g f d) (sym (fate-read d npc m v goes) ∙ ap (λ r. fate_of d npc m r goes) same ∙ fate-read d npc m w goes)
     ∙ ap (λ x. g (fate_of x npc m w goes) x) is
