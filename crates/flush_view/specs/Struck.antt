@@ -67,7 +67,7 @@ pub record OtherBytes (s : State) (contents : Contents) (set way : ℕ) (bytes :
   -- and the view of a byte changes only where the slot holds its line, and no pending store holds the byte
   pub view : (seen : ℕ → ℕ) (p : ℕ)
       → (found (pending s.stores) (p / 4) (p % 4) ≡ None → set_of s.cache.shape (p / 16) ≡ set
-        → holds s.cache.shape (p / 16) (slots s.cache set way) ≡ true
+      → holds s.cache.shape (p / 16) (slots s.cache set way) ≡ true
       → seen (bytes (p % 16)) ≡ seen ((slots s.cache set way).bytes (p % 16)))
       → seen (view (with_cache contents s) p) ≡ seen (view s p)
 

@@ -55,7 +55,7 @@ path-behind image [] log at = refl
 path-behind image (item ∷ items) log at = go (path-behind image items log (completed_item image item at)) (is_reached item at)
   where
     go : completed_path image items (after_log log (completed_item image item at))
-            ≡ after_log log (completed_path image items (completed_item image item at))
+        ≡ after_log log (completed_path image items (completed_item image item at))
         → (b : Bool) → (if b then completed_path image items (completed_item image item (after_log log at)) else after_log log at)
         ≡ after_log log (if b then completed_path image items (completed_item image item at) else at)
     go rest true =

@@ -102,7 +102,7 @@ outside-path image out (item ∷ items) at h =
   where
     go : (AvoidsAll out (completed_path image items (completed_item image item at)).log.actions
         → outside out (completed_path image items (completed_item image item at))
-            ≡ completed_path image items (outside out (completed_item image item at)))
+        ≡ completed_path image items (outside out (completed_item image item at)))
         → (AvoidsAll out (completed_path image items (completed_item image item at)).log.actions → AvoidsAll out (completed_item image item at).log.actions)
         → (b : Bool) → AvoidsAll out (if b then completed_path image items (completed_item image item at) else at).log.actions
         → outside out (if b then completed_path image items (completed_item image item at) else at)

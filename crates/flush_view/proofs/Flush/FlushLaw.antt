@@ -46,7 +46,7 @@ masked-path image out (item ∷ items) at h = go (masked-path image out items (c
   where
     go : (AvoidsAll out (completed_path image items (outside out (completed_item image item at))).log.actions
         → outside out (completed_path image items (completed_item image item at))
-            ≡ completed_path image items (outside out (completed_item image item at)))
+        ≡ completed_path image items (outside out (completed_item image item at)))
         → (b : Bool) → AvoidsAll out (if b then completed_path image items (completed_item image item (outside out at)) else outside out at).log.actions
         → outside out (if b then completed_path image items (completed_item image item at) else at)
         ≡ (if b then completed_path image items (completed_item image item (outside out at)) else outside out at)

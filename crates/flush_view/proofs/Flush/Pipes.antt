@@ -148,7 +148,7 @@ path-taken image x w old memory registers (e ∷ es) more at h =
 pub path-stalled : (image : LoadedImage) (m x : Action) (w next : ResultLatch) (memory after : ℕ → ℕ) (d : DecodedLatch) (rest : List Entry)
     (more : List Item) (at : Arch) → ((rs held : ℕ) → operand_held image x next after rs (late w rs held) ≡ operand_held image m w memory rs held)
     → completed_path image (path_of image x next after (stalled d w) rest ++ more) at
-        ≡ completed_path image (path_of image m w memory d rest ++ more) at
+    ≡ completed_path image (path_of image m w memory d rest ++ more) at
 path-stalled image m x w next memory after d rest more at same = go d.valid
   where
     go : (v : Bool)

@@ -105,7 +105,7 @@ stray-masked image [] = refl
 stray-masked image (e ∷ es) = go (word_in_ram image e.addr)
   where
     go : (b : Bool) → (if (not b) then masked_entries es else (masked_entry e ∷ masked_entries es))
-            ≡ masked_entries (if (not b) then es else (e ∷ es))
+        ≡ masked_entries (if (not b) then es else (e ∷ es))
     go true = refl
     go false = refl
 

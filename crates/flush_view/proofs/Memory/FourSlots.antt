@@ -38,5 +38,5 @@ four_slots (a ∷ b ∷ c ∷ d ∷ e ∷ es) p below four = absurd (omega arith
 
 pub overlaid_slots : (slots : List Entry) (p below : ℕ) → length slots ≡ 4
     → over (slot_of slots 3) p (over (slot_of slots 2) p (over (slot_of slots 1) p (over (slot_of slots 0) p below)))
-        ≡ overlaid (pending slots) p below
+    ≡ overlaid (pending slots) p below
 overlaid_slots slots p below four = four_slots slots p below four ∙ sym (overlaid-pending slots p below)
