@@ -11,19 +11,20 @@ use std::alloc::{AllocError, AllocFailed};
 pub enum Refusal {
     /// The words are no command.
     Usage,
-    /// A read of a file failed.
+    /// A read of the file failed.
     ReadFault,
     /// The image is malformed: the number, 1 to 13, of the first fault that it has.
     BadImage(u8),
-    /// The run didn't end within the budget.
+    /// The machine didn't end within the budget, in cycles.
     NoEnd,
-    /// The structure, the bit or the cycle doesn't exist.
+    /// There is no structure of that name, no such bit in it, or no such cycle in the run.
     NoSuchBit,
     /// A write to the standard output failed.
     WriteFault,
     /// There was no memory.
     OutOfMemory,
-    /// The source is malformed: the line, from 1 on, of its first fault, and that fault's number, 1 to 7. A source that is too long, or empty, has line 0 and 7.
+    /// The source is malformed: the line of its first fault, from 1 on, and the number, 1 to 7, of what is wrong there. Line 0,
+    /// always with 7, is the whole source: it is above 1 MiB, its text part is empty, or a part is too large.
     BadSource { line: u32, cause: u8 },
 }
 

@@ -3,6 +3,7 @@ use Rattle.std.specs.Prelude.{ℕ, ◌+◌, ◌*◌, ◌%◌, ◌^◌, List, [],
 use Rattle.std.specs.Int.{w32, to_le_bytes}
 use Rattle.std.specs.List.{flat_map}
 use Rattle.elf_fixture.specs.declared.Header.{Header}
+use Rattle.elf_fixture.specs.declared.Segment.{Segment}
 use Rattle.elf_fixture.specs.declared.TheConstants.{ENTRY, FILE_HEADER, PROGRAM_HEADER}
 
 -- words, each from its lowest byte
@@ -40,3 +41,27 @@ flat_header size = record {
 -- the file of words as one executable segment
 abbrev pub flat_file : List ℕ → List ℕ
 flat_file words = file_of (flat_header (4 * (length words % 2 ^ 30)) ∷ []) (bytes_of_words words)
+
+-- the header of a segment whose bytes begin at this offset of the file
+abbrev pub segment_header : ℕ → Segment → Header
+segment_header offset s = record {
+  kind = s.kind;
+  offset = offset % 2 ^ 32;
+  address = s.address;
+  file_size = length s.bytes.now % 2 ^ 32;
+  memory_size = length s.bytes.now % 2 ^ 32;
+  flags = s.flags;
+}
+
+-- the headers of segments whose bytes stand one behind the other, from this offset on
+abbrev pub segment_headers : ℕ → List Segment → List Header
+segment_headers offset [] = []
+segment_headers offset (s ∷ rest) = segment_header offset s ∷ segment_headers (offset + length s.bytes.now) rest
+
+-- the bytes of segments, one behind the other
+abbrev pub segment_bytes : List Segment → List ℕ
+segment_bytes segments = flat_map (λ s. s.bytes.now) segments
+
+-- the file of segments, whose bytes stand behind the headers
+abbrev pub segmented_file : List Segment → List ℕ
+segmented_file segments = file_of (segment_headers (52 + 32 * length segments) segments) (segment_bytes segments)

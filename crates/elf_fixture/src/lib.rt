@@ -3,10 +3,10 @@
 //! little-endian.
 #![tactic(auto)]
 
-ghost use Rattle.std.specs.Prelude.{◌≡◌, ◌+◌, ◌*◌, ◌%◌, ◌++◌, IfOk, OnOk, length};
-ghost use Rattle.std.specs.List.{sum_by};
+ghost use Rattle.std.specs.Prelude.{◌≡◌, ◌++◌, IfOk, OnOk};
 ghost use Rattle.std.specs.Int.{to_le_bytes};
-ghost use Rattle.elf_fixture.specs.Files.{bytes_of_words, file_of, flat_file, header_words, headers_bytes};
+ghost use Rattle.elf_fixture.specs.Files.{bytes_of_words, file_of, flat_file, header_words, headers_bytes, segmented_file};
+ghost use Rattle.elf_fixture.specs.Files as files;
 
 use std::alloc::{AllocError, Global};
 
@@ -156,25 +156,32 @@ pub fn flat(alloc: Global, words: &[u32]) -> Result<Vec<u8>, AllocError>
     file(alloc, &[header], &bytes_of(alloc, words)?)
 }
 
+/// The program header of a segment whose bytes begin at this offset of the file.
+fn segment_header(offset: u64, segment: &Segment) -> Header
+    ensures { result ≡ files.segment_header offset segment.now }
+{
+    let size = (segment.bytes.len() as u64 % ADDRESSES) as u32;
+    Header {
+        kind: segment.kind,
+        offset: (offset % ADDRESSES) as u32,
+        address: segment.address,
+        file_size: size,
+        memory_size: size,
+        flags: segment.flags,
+    }
+}
+
 /// A file of these segments, whose bytes stand one behind the other. Offsets and sizes are told modulo 2^32.
+#[tactic(auto, using(crate::proofs::Segments::headers_more, crate::proofs::Segments::bytes_more, crate::proofs::Segments::made))]
 pub fn segmented(alloc: Global, segments: &[Segment]) -> Result<Vec<u8>, AllocError>
-    ensures { IfOk result (λ v. length v.items ≡ 52 + 32 * length segments.now + sum_by (λ s. length s.bytes.now) segments.now) }
+    ensures { IfOk result (λ v. v.items ≡ segmented_file segments.now) }
 {
     let start = 52 + 32 * (segments.len() as u64);
     let mut headers = Vec::new(alloc);
     let mut bytes = Vec::new(alloc);
     for segment in segments {
-        let size = (segment.bytes.len() as u64 % ADDRESSES) as u32;
-        headers.push(Header {
-            kind: segment.kind,
-            offset: (start.wrapping_add(bytes.len() as u64) % ADDRESSES) as u32,
-            address: segment.address,
-            file_size: size,
-            memory_size: size,
-            flags: segment.flags,
-        })?;
+        headers.push(segment_header(start.wrapping_add(bytes.len() as u64), segment))?;
         bytes.extend_from_slice(segment.bytes)?;
     }
-    let whole = file(alloc, &headers, &bytes)?;
-    Ok(whole)
+    file(alloc, &headers, &bytes)
 }

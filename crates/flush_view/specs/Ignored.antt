@@ -4,6 +4,8 @@ use Rattle.std.specs.Prelude.{◌≡◌, ℕ, suc, ◌==◌, [], ◌∷◌, map,
 use Rattle.std.specs.Int.{w32, from_le_bytes}
 use Rattle.inst_buf.specs.Entry.{Entry as Fetched, no_entry as no_fetched}
 use Rattle.pipe_latch.specs.Latches.{DecodedLatch, ExecutedLatch, ResultLatch, no_decoded, no_executed, no_result}
+use Rattle.pipe_latch.specs.LatchedActions.{kind_number}
+use Rattle.pipe_latch.specs.declared.kinds.ExMemKind.TheVariants.{Trap}
 use Rattle.bit_field.specs.Lanes.{has_lane, lane_byte}
 use Rattle.store_buf.specs.Entry.{Entry as Pending, no_entry as no_pending}
 use Rattle.wb_cache.specs.Contents.{Contents, Slot, no_slot, slots}
@@ -23,9 +25,9 @@ read_of_fetched e = if e.valid then e else no_fetched
 abbrev pub read_of_decoded : DecodedLatch → DecodedLatch
 read_of_decoded d = if d.valid then d else no_decoded
 
--- an empty EX/MEM, and the cause in one that holds no trap (kind 11),
+-- an empty EX/MEM, and the cause in one that holds no trap,
 abbrev pub read_of_executed : ExecutedLatch → ExecutedLatch
-read_of_executed m = if m.valid then (if m.kind == 11 then m else record m { cause = 0 }) else no_executed
+read_of_executed m = if m.valid then (if m.kind == kind_number Trap then m else record m { cause = 0 }) else no_executed
 
 -- a MEM/WB that writes no register,
 abbrev pub read_of_result : ResultLatch → ResultLatch

@@ -66,7 +66,8 @@ pub record OtherBytes (s : State) (contents : Contents) (set way : ℕ) (bytes :
   pub coherent : (slots s.cache set way).dirty ≡ true → (out : ℕ → Bool) → IsCoherent out s → IsCoherent out (with_cache contents s)
   -- and the view of a byte changes only where the slot holds its line, and no pending store holds the byte
   pub view : (seen : ℕ → ℕ) (p : ℕ)
-      → (found (pending s.stores) (p / 4) (p % 4) ≡ None → set_of s.cache.shape (p / 16) ≡ set → holds s.cache.shape (p / 16) (slots s.cache set way) ≡ true
+      → (found (pending s.stores) (p / 4) (p % 4) ≡ None → set_of s.cache.shape (p / 16) ≡ set
+      → holds s.cache.shape (p / 16) (slots s.cache set way) ≡ true
       → seen (bytes (p % 16)) ≡ seen ((slots s.cache set way).bytes (p % 16)))
       → seen (view (with_cache contents s) p) ≡ seen (view s p)
 
@@ -88,7 +89,8 @@ pub record OtherStore (s : State) (i : ℕ) (e : Pending) : Type 0 where
 -- ---- the laws
 
 pub record StruckLaws : Type 0 where
-  pub unread : (s : State) (pc : ℕ) (tables : Tables) (port : PortState) (count : ℕ) (nodes : List Bool) → MeansSame s (retimed pc tables port count nodes s)
+  pub unread : (s : State) (pc : ℕ) (tables : Tables) (port : PortState) (count : ℕ) (nodes : List Bool)
+      → MeansSame s (retimed pc tables port count nodes s)
   pub replaced : (out : ℕ → Bool) (s : State) (contents : Contents) (set way : ℕ) (new : Slot) → IsReplaced s contents set way new
       → Replaces s.cache.shape out set (slots s.cache set way) new → IsCoherent out s → SameOutside out s (with_cache contents s)
   pub bytes : (s : State) (contents : Contents) (set way : ℕ) (bytes : ℕ → ℕ)

@@ -24,7 +24,7 @@ use std::marker::Model;
 #[derive(Drop)]
 pub struct Cache {
     shape: Shape,
-    data: LineData,
+    lines: LineData,
     tags: LineTags,
     valid: Flags,
     dirty: Flags,
@@ -38,9 +38,9 @@ impl Model for Cache {
 
     ghost Value = { Contents };
 
-    ghost view = { λ x. record { shape = x.shape; bytes = x.data; tags = x.tags.tags; valid = x.valid; dirty = x.dirty; nodes = x.nodes } };
+    ghost view = { λ x. record { shape = x.shape; bytes = x.lines; tags = x.tags.tags; valid = x.valid; dirty = x.dirty; nodes = x.nodes } };
 
-    ghost invariant = { λ x. IsSized (record { shape = x.shape; bytes = x.data; tags = x.tags.tags; valid = x.valid; dirty = x.dirty; nodes = x.nodes }) × (x.tags.width ≡ tag_bits x.shape) };
+    ghost invariant = { λ x. IsSized (record { shape = x.shape; bytes = x.lines; tags = x.tags.tags; valid = x.valid; dirty = x.dirty; nodes = x.nodes }) × (x.tags.width ≡ tag_bits x.shape) };
 }
 
 impl Cache {
@@ -60,7 +60,7 @@ impl Cache {
         let slots = u32::from(shape.sets) * u32::from(shape.ways);
         Ok(Cache {
             shape: *shape,
-            data: LineData::zeroed(alloc, 16 * slots)?,
+            lines: LineData::zeroed(alloc, 16 * slots)?,
             tags: LineTags::zeroed(alloc, shape)?,
             valid: Flags::cleared(alloc, slots)?,
             dirty: Flags::cleared(alloc, slots)?,
@@ -80,7 +80,7 @@ impl Cache {
     pub fn is_cache(&self)
         ensures { IsContents self.now }
     {
-        self.data.fits();
+        self.lines.fits();
         self.tags.fits();
     }
 
@@ -282,7 +282,7 @@ impl Cache {
         requires offset { offset < 16 }
         ensures { result ≡ (slots self.now set way).bytes offset }
     {
-        self.data.byte(16 * self.slot(set, way) + offset)
+        self.lines.byte(16 * self.slot(set, way) + offset)
     }
 
     // A word of a line slot.
@@ -293,7 +293,7 @@ impl Cache {
         requires word { word < 4 }
         ensures { result ≡ access.word_at (slots self.now set way) word }
     {
-        self.data.word(16 * self.slot(set, way) + 4 * word)
+        self.lines.word(16 * self.slot(set, way) + 4 * word)
     }
 
     // Writes the lanes of a mask to a word of a line slot, which is dirty and used then.
@@ -305,7 +305,7 @@ impl Cache {
         ensures { self.new ≡ access.put set way word mask value self.old }
     {
         let slot = self.slot(set, way);
-        self.data.put_word(16 * slot + 4 * word, mask, value);
+        self.lines.put_word(16 * slot + 4 * word, mask, value);
         self.dirty.put(slot, true);
         use_way(&mut self.nodes, &self.shape, set, way);
     }
@@ -328,7 +328,7 @@ impl Cache {
     {
         if self.valid(set, way) && self.dirty(set, way) {
             let line = self.line_of(set, self.tag(set, way));
-            put_line(memory, image, line, self.data.line(self.slot(set, way)));
+            put_line(memory, image, line, self.lines.line(self.slot(set, way)));
         }
     }
 
@@ -343,7 +343,7 @@ impl Cache {
         let set = self.set_of(line);
         let tag = self.tag_of(line);
         let slot = self.slot(set, way);
-        self.data.put_line(slot, &line_bytes(memory, image, line));
+        self.lines.put_line(slot, &line_bytes(memory, image, line));
         self.tags.set_tag(slot, tag);
         self.valid.put(slot, true);
         self.dirty.put(slot, false);
@@ -362,7 +362,7 @@ impl Cache {
         ensures { IsTrue result ↔ (bit_in place.now.structure self.now place.now.bit ≡ 1) }
     {
         match place.structure {
-            Structure::CData => self.data.bit(place.bit),
+            Structure::CData => self.lines.bit(place.bit),
             Structure::CTag => self.tags.bit(place.bit),
             Structure::CValid => self.valid.bit(place.bit),
             Structure::CDirty => self.dirty.bit(place.bit),
@@ -377,7 +377,7 @@ impl Cache {
         ensures { self.new ≡ flip_in place.now.structure self.old place.now.bit }
     {
         match place.structure {
-            Structure::CData => self.data.flip(place.bit),
+            Structure::CData => self.lines.flip(place.bit),
             Structure::CTag => self.tags.flip(place.bit),
             Structure::CValid => self.valid.flip(place.bit),
             Structure::CDirty => self.dirty.flip(place.bit),

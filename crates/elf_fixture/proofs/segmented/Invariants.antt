@@ -1,9 +1,9 @@
-use Rattle.std.proofs.Common.{◌≡◌, length, take}
-use Rattle.std.specs.List.{sum_by}
+use Rattle.std.proofs.Common.{◌≡◌, take}
+use Rattle.elf_fixture.specs.Files.{segment_bytes, segment_headers}
 use Rattle.elf_fixture.proofs.segmented.Given as goal
 
 abbrev pub invariant-loop-segment : goal.invariant-loop-segment
 invariant-loop-segment l = record {
-  headers : length l.headers.items ≡ l.segment-index;
-  bytes : length l.bytes.items ≡ sum_by (λ s. length s.bytes.now) (take l.segment-index l.segments);
+  headers : l.headers.items ≡ segment_headers l.start (take l.segment-index l.segments);
+  bytes : l.bytes.items ≡ segment_bytes (take l.segment-index l.segments);
 }

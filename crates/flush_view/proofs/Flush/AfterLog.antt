@@ -38,7 +38,8 @@ logged-behind log later m =
     ∙ ap (λ (actions : List Action). record { output = log.output ++ with_byte later.output (byte_put m); actions = actions })
     (with_action-behind log.actions later.actions m)
 
-pub performed-behind : (image : LoadedImage) (m : Action) (log : Log) (at : Arch) → performed image m (after_log log at) ≡ after_log log (performed image m at)
+pub performed-behind : (image : LoadedImage) (m : Action) (log : Log) (at : Arch)
+    → performed image m (after_log log at) ≡ after_log log (performed image m at)
 performed-behind image m log at = ap (λ (l : Log). record (performed image m at) { log = l }) (logged-behind log at.log m)
 
 pub completed-behind : (image : LoadedImage) (op : Op) (pc a b : ℕ) (log : Log) (at : Arch)
@@ -53,7 +54,8 @@ unfolding completed_path
 path-behind image [] log at = refl
 path-behind image (item ∷ items) log at = go (path-behind image items log (completed_item image item at)) (is_reached item at)
   where
-    go : completed_path image items (after_log log (completed_item image item at)) ≡ after_log log (completed_path image items (completed_item image item at))
+    go : completed_path image items (after_log log (completed_item image item at))
+        ≡ after_log log (completed_path image items (completed_item image item at))
         → (b : Bool) → (if b then completed_path image items (completed_item image item (after_log log at)) else after_log log at)
         ≡ after_log log (if b then completed_path image items (completed_item image item at) else at)
     go rest true =
@@ -106,7 +108,8 @@ drop-later : (n : ℕ) (clocks : List ℕ) → drop n (later_clocks clocks) ≡ 
 drop-later n [] = none_left n
 drop-later n (c ∷ clocks) = refl
 
-pub path-takes : (image : LoadedImage) (items : List Item) (at : Arch) → Takes (completed_count image items at) at.clocks (completed_path image items at).clocks
+pub path-takes : (image : LoadedImage) (items : List Item) (at : Arch)
+    → Takes (completed_count image items at) at.clocks (completed_path image items at).clocks
 unfolding completed_path completed_count completed
 path-takes image [] at = record { taken = 0; most = omega arith; is = refl }
 path-takes image (item ∷ items) at = go (is_reached item at) (path-takes image items (completed_item image item at))

@@ -17,7 +17,8 @@ use Rattle.flush_view.proofs.Flush.Masked.{given-masked, memory_after-masked}
 
 -- ---- an instruction that avoids X
 
-performed-by : (image : LoadedImage) (out : ℕ → Bool) (m : Action) (at : Arch) (value : ℕ) (memory : ℕ → ℕ) → given image m (masked out at.memory) ≡ value
+performed-by : (image : LoadedImage) (out : ℕ → Bool) (m : Action) (at : Arch) (value : ℕ) (memory : ℕ → ℕ)
+    → given image m (masked out at.memory) ≡ value
     → memory_after image m (masked out at.memory) ≡ memory
     → performed image m (outside out at) ≡ record (performed image m at) { registers = put_reg (written_register m) value at.registers; memory = memory }
 performed-by image out m at value memory e f =
@@ -53,7 +54,8 @@ before-action : (out : ℕ → Bool) (actions : List Action) (m : Action) → Av
 before-action out [] m h = (tt, h.0)
 before-action out (a ∷ actions) m h = let rest = before-action out actions m h.1 in ((h.0, rest.0), rest.1)
 
-pub before-logged : (out : ℕ → Bool) (actions : List Action) (m : Action) → AvoidsAll out (with_action actions m) → AvoidsAll out actions × Avoids out m
+pub before-logged : (out : ℕ → Bool) (actions : List Action) (m : Action) → AvoidsAll out (with_action actions m)
+    → AvoidsAll out actions × Avoids out m
 before-logged out actions Nothing h = (h, tt)
 before-logged out actions (Writes rd value) h = before-action out actions (Writes rd value) h
 before-logged out actions (Loads kind rd x) h = before-action out actions (Loads kind rd x) h
@@ -68,7 +70,8 @@ unfolding completed
 completed-log image op pc a b at = refl
 
 abbrev pub item_action : LoadedImage → Item → Arch → Action
-item_action image item at = action_in image item.op item.pc (item.a at.registers) (with_counter item.op (first_clock at.clocks) at.count (item.b at.registers))
+item_action image item at =
+    action_in image item.op item.pc (item.a at.registers) (with_counter item.op (first_clock at.clocks) at.count (item.b at.registers))
 
 pub before-item : (image : LoadedImage) (out : ℕ → Bool) (item : Item) (at : Arch) → AvoidsAll out (completed_item image item at).log.actions
     → AvoidsAll out at.log.actions × Avoids out (item_action image item at)
@@ -98,7 +101,8 @@ outside-path image out (item ∷ items) at h =
     go (outside-path image out items (completed_item image item at)) (before-path image out items (completed_item image item at)) (is_reached item at) h
   where
     go : (AvoidsAll out (completed_path image items (completed_item image item at)).log.actions
-        → outside out (completed_path image items (completed_item image item at)) ≡ completed_path image items (outside out (completed_item image item at)))
+        → outside out (completed_path image items (completed_item image item at))
+        ≡ completed_path image items (outside out (completed_item image item at)))
         → (AvoidsAll out (completed_path image items (completed_item image item at)).log.actions → AvoidsAll out (completed_item image item at).log.actions)
         → (b : Bool) → AvoidsAll out (if b then completed_path image items (completed_item image item at) else at).log.actions
         → outside out (if b then completed_path image items (completed_item image item at) else at)

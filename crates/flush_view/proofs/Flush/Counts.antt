@@ -30,14 +30,16 @@ something-logged actions (Exits value) h = one_more actions (Exits value)
 something-logged actions (Traps cause) h = one_more actions (Traps cause)
 
 -- an instruction is
-pub completed-logged : (image : LoadedImage) (op : Op) (pc a b : ℕ) (at : Arch) → length (completed image op pc a b at).log.actions ≡ length at.log.actions + 1
+pub completed-logged : (image : LoadedImage) (op : Op) (pc a b : ℕ) (at : Arch)
+    → length (completed image op pc a b at).log.actions ≡ length at.log.actions + 1
 unfolding completed
 completed-logged image op pc a b at =
     let c = with_counter op (first_clock at.clocks) at.count b in
     something-logged at.log.actions _ (action-something (word_in_ram image) (executable image) op pc a c)
 
 -- what EX/MEM holds is, where it is occupied
-pub latch-logged : (actions : List Action) (m : ExecutedLatch) → length (with_action actions (action_of m)) ≡ length actions + (if m.valid then 1 else 0)
+pub latch-logged : (actions : List Action) (m : ExecutedLatch)
+    → length (with_action actions (action_of m)) ≡ length actions + (if m.valid then 1 else 0)
 latch-logged actions m = go m.valid refl
   where
     go : (v : Bool) → m.valid ≡ v → length (with_action actions (action_of m)) ≡ length actions + (if v then 1 else 0)
@@ -64,7 +66,8 @@ path-counts image (item ∷ items) at =
 pub flush-counts : (s : State) (clocks : List ℕ) (log : Log)
     → length (flush s clocks log).log.actions ≡ length log.actions + (if s.m.valid then 1 else 0) + entries_completed s clocks log
 unfolding flush
-flush-counts s clocks log = path-counts s.image (path s) (latched s clocks log) ∙ ap (λ n. n + entries_completed s clocks log) (latch-logged log.actions s.m)
+flush-counts s clocks log =
+    path-counts s.image (path s) (latched s clocks log) ∙ ap (λ n. n + entries_completed s clocks log) (latch-logged log.actions s.m)
 
 pub flush-leaves : (s : State) (log : Log) → length (logged log (done_in s)).actions ≡ length log.actions + (if retires s then 1 else 0)
 flush-leaves s log = go (served_m s).goes

@@ -31,7 +31,8 @@ use Rattle.cyc_machine.specs.Sizes.{IsSteady}
 
 -- ---- a path over masked memory whose log avoids X
 
-masked_item : (image : LoadedImage) (out : ℕ → Bool) (item : Item) (at : Arch) → AvoidsAll out (completed_item image item (outside out at)).log.actions
+masked_item : (image : LoadedImage) (out : ℕ → Bool) (item : Item) (at : Arch)
+    → AvoidsAll out (completed_item image item (outside out at)).log.actions
     → outside out (completed_item image item at) ≡ completed_item image item (outside out at)
 masked_item image out item at h =
     outside-completed image out item.op item.pc (item.a at.registers) (item.b at.registers) at (before-item image out item (outside out at) h).1
@@ -44,7 +45,8 @@ masked-path image out [] at h = refl
 masked-path image out (item ∷ items) at h = go (masked-path image out items (completed_item image item at)) (is_reached item at) h
   where
     go : (AvoidsAll out (completed_path image items (outside out (completed_item image item at))).log.actions
-        → outside out (completed_path image items (completed_item image item at)) ≡ completed_path image items (outside out (completed_item image item at)))
+        → outside out (completed_path image items (completed_item image item at))
+        ≡ completed_path image items (outside out (completed_item image item at)))
         → (b : Bool) → AvoidsAll out (if b then completed_path image items (completed_item image item (outside out at)) else outside out at).log.actions
         → outside out (if b then completed_path image items (completed_item image item at) else at)
         ≡ (if b then completed_path image items (completed_item image item (outside out at)) else outside out at)
@@ -108,7 +110,8 @@ module _ (s : State) (out : ℕ → Bool) (clocks : List ℕ) (log : Log) where
 
   pub more-outside : (more : List Item) → AvoidsAll out (completed_path s.image (path s ++ more) (latched s clocks log)).log.actions
       → outside out (completed_path s.image (path s ++ more) (latched s clocks log)) ≡ flush_more more (piped s) (masked out (view s)) clocks log
-  more-outside more h = outside-path s.image out (path s ++ more) (latched s clocks log) h ∙ sym (over-path (λ items. items ++ more) (first (path s ++ more) h))
+  more-outside more h =
+      outside-path s.image out (path s ++ more) (latched s clocks log) h ∙ sym (over-path (λ items. items ++ more) (first (path s ++ more) h))
 
   pub flush-masked : AvoidsAll out over_mask.log.actions → outside out (flush s clocks log) ≡ over_mask
   unfolding flush
@@ -142,7 +145,8 @@ after-action : (out : ℕ → Bool) (actions : List Action) (m : Action) → Avo
 after-action out [] m h k = (k, tt)
 after-action out (a ∷ actions) m h k = (h.0, after-action out actions m h.1 k)
 
-pub after-logged : (out : ℕ → Bool) (actions : List Action) (m : Action) → AvoidsAll out actions → Avoids out m → AvoidsAll out (with_action actions m)
+pub after-logged : (out : ℕ → Bool) (actions : List Action) (m : Action) → AvoidsAll out actions → Avoids out m
+    → AvoidsAll out (with_action actions m)
 after-logged out actions Nothing h k = h
 after-logged out actions (Writes rd value) h k = after-action out actions (Writes rd value) h k
 after-logged out actions (Loads kind rd x) h k = after-action out actions (Loads kind rd x) h k
@@ -151,10 +155,12 @@ after-logged out actions (Puts value) h k = after-action out actions (Puts value
 after-logged out actions (Exits value) h k = after-action out actions (Exits value) h k
 after-logged out actions (Traps cause) h k = after-action out actions (Traps cause) h k
 
-moved-avoids : (s : State) (out : ℕ → Bool) (clocks : List ℕ) (log : Log) → AvoidsFlush out s clocks log → AvoidsAll out (moved_flush s clocks log).log.actions
+moved-avoids : (s : State) (out : ℕ → Bool) (clocks : List ℕ) (log : Log) → AvoidsFlush out s clocks log
+    → AvoidsAll out (moved_flush s clocks log).log.actions
 moved-avoids s out clocks log avoids = go (moves_on s clocks log) refl
   where
-    go : (b : Bool) → moves_on s clocks log ≡ b → AvoidsAll out (if b then instruction s.image (flush s clocks log) else flush s clocks log).log.actions
+    go : (b : Bool) → moves_on s clocks log ≡ b
+        → AvoidsAll out (if b then instruction s.image (flush s clocks log) else flush s clocks log).log.actions
     go true h =
         subst (AvoidsAll out) (sym (instruction-log s.image (flush s clocks log)))
         (after-logged out (flush s clocks log).log.actions (next_action s.image (flush s clocks log)) avoids.done (avoids.next (moves-running s clocks log h)))

@@ -45,7 +45,8 @@ piped s =
 
 -- ---- EX/MEM
 
-action-after : (f : Fate) (s : State) (goes : Bool) → action_of (executed_after s.image f goes s.d s.cycle s.issued s.m) ≡ action_next f goes (piped s)
+action-after : (f : Fate) (s : State) (goes : Bool)
+    → action_of (executed_after s.image f goes s.d s.cycle s.issued s.m) ≡ action_next f goes (piped s)
 unfolding executed_after
 action-after (Goes a b) s goes = action_of-executed s.image s.d a _
 action-after Absent s true = action_of-no_executed
@@ -95,7 +96,8 @@ after_valid image (Goes a b) pc es valid = filled_valid image pc (drop 1 es) (Al
 
 pub waiting-after : (image : LoadedImage) (f : Fate) (pc : ℕ) (slots : List Entry)
     → entries (packed (entries_after image f pc (entries slots))) ≡ entries_after image f pc (entries slots)
-waiting-after image f pc slots = entries-packed (entries_after image f pc (entries slots)) (after_valid image f pc (entries slots) (entries_valid slots))
+waiting-after image f pc slots =
+    entries-packed (entries_after image f pc (entries slots)) (after_valid image f pc (entries slots) (entries_valid slots))
 
 -- ---- the register file
 

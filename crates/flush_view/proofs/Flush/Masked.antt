@@ -86,7 +86,8 @@ unfolding flush flush_over
 flush-over s clocks log = refl
 
 -- M is served: what the cycle does to memory and gives is what M does and gives
-by_served : (p : Pipe) (goes : Bool) (value pc : ℕ) (memory after : ℕ → ℕ) (clocks : List ℕ) (log : Log) → (goes ≡ true → value ≡ given p.image p.m memory)
+by_served : (p : Pipe) (goes : Bool) (value pc : ℕ) (memory after : ℕ → ℕ) (clocks : List ℕ) (log : Log)
+    → (goes ≡ true → value ≡ given p.image p.m memory)
     → after ≡ memory_after p.image (if goes then p.m else Nothing) memory → end_of p.m ≡ None
     → flush_pipe (next_pipe (fate_of p.d p.npc p.m p.w goes) goes value pc p) after clocks (logged log (if goes then p.m else Nothing))
     ≡ flush_more (added_to (fate_of p.d p.npc p.m p.w goes) p) p memory (fed_pipe (fate_of p.d p.npc p.m p.w goes) p clocks) log

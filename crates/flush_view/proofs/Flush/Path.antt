@@ -25,7 +25,8 @@ count_more count items item = grind (arith, nat_tests)
 none_more : (items : List Item) (item : Item) → (0 == length (item ∷ items)) ≡ false
 none_more items item = grind (arith, nat_tests)
 
-pub path-push : (image : LoadedImage) (items : List Item) (item : Item) (at : Arch) → completed_path image (items ++ item ∷ []) at ≡ pushed image items item at
+pub path-push : (image : LoadedImage) (items : List Item) (item : Item) (at : Arch)
+    → completed_path image (items ++ item ∷ []) at ≡ pushed image items item at
 unfolding completed_path completed_count
 path-push image [] item at = refl
 path-push image (i ∷ items) item at = go (path-push image items item (completed_item image i at)) (is_reached i at)
@@ -68,7 +69,8 @@ pub completed_op : (image : LoadedImage) (op other : Op) (pc place : ℕ) (at : 
 completed_op image op other pc place at e f = rw (e, f) refl
 
 -- a fetched entry at the address reached is the next instruction
-pub fetched-next : (image : LoadedImage) (pc : ℕ) (at : Arch) → pc ≡ at.pc → completed_item image (item_of_entry (fetched image pc)) at ≡ instruction image at
+pub fetched-next : (image : LoadedImage) (pc : ℕ) (at : Arch) → pc ≡ at.pc
+    → completed_item image (item_of_entry (fetched image pc)) at ≡ instruction image at
 unfolding instruction
 fetched-next image pc at e =
     completed_op image (op_of_entry (fetched image pc)) (op_at image at.pc) (fetched image pc).pc at.pc at

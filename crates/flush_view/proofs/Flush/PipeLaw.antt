@@ -37,7 +37,8 @@ goes_no (Value x) (Value y) = (λ h. absurd cc, λ h. absurd cc)
 goes_no Wait y = (λ h. absurd cc, λ h. absurd cc)
 goes_no (Value x) Wait = (λ h. absurd cc, λ h. absurd cc)
 
-absent-by : (v r t : Bool) (x y : Forwarded) → (if v then (if r then (if t then goes_with x y else Stays) else Dropped) else Absent) ≡ Absent → v ≡ false
+absent-by : (v r t : Bool) (x y : Forwarded) → (if v then (if r then (if t then goes_with x y else Stays) else Dropped) else Absent) ≡ Absent
+    → v ≡ false
 absent-by false r t x y h = refl
 absent-by true true true x y h = absurd ((goes_no x y).0 h)
 absent-by true true false x y h = absurd cc
@@ -50,7 +51,8 @@ dropped-by true true true x y h = absurd ((goes_no x y).1 h)
 dropped-by true true false x y h = absurd cc
 dropped-by true false t x y h = (refl, refl)
 
-goes-by : (v r t : Bool) (x y : Forwarded) (a b : ℕ) → (if v then (if r then (if t then goes_with x y else Stays) else Dropped) else Absent) ≡ Goes a b
+goes-by : (v r t : Bool) (x y : Forwarded) (a b : ℕ)
+    → (if v then (if r then (if t then goes_with x y else Stays) else Dropped) else Absent) ≡ Goes a b
     → (v ≡ true) × (r ≡ true) × (t ≡ true) × (x ≡ Value a) × (y ≡ Value b)
 goes-by false r t x y a b h = absurd cc
 goes-by true true true x y a b h = let g = goes_by x y a b h in (refl, refl, refl, g.0, g.1)
@@ -125,7 +127,8 @@ flush-filled : (p : Pipe) (m : Action) (w : ResultLatch) (memory : ℕ → ℕ) 
 flush-filled p m w memory d rest at = ap (λ (items : List Item). completed_path p.image items at) (path-filled p.image m w memory d p.pc rest)
 
 -- an item that isn't reached ends the path
-unreached : (image : LoadedImage) (item : Item) (items : List Item) (at : Arch) → (item.pc == at.pc) ≡ false → completed_path image (item ∷ items) at ≡ at
+unreached : (image : LoadedImage) (item : Item) (items : List Item) (at : Arch) → (item.pc == at.pc) ≡ false
+    → completed_path image (item ∷ items) at ≡ at
 unfolding completed_path
 unreached image item items at h = go (is_none at.stop)
   where
@@ -233,7 +236,8 @@ waits-absent p value pc memory clocks log e h =
     ∙ ap (λ o. completed_path p.image (map item_of_entry p.waiting ++ added_to Absent p) (record (base p memory p.npc p.issued clocks log) { stop = o })) h
     ∙ sym (flush-valid (added_to Absent p) p memory clocks log false e h)
 
-waits-dropped : (p : Pipe) (value pc : ℕ) (memory : ℕ → ℕ) (clocks : List ℕ) (log : Log) → p.d.valid ≡ true → (p.d.pc == p.npc) ≡ false → end_of p.m ≡ None
+waits-dropped : (p : Pipe) (value pc : ℕ) (memory : ℕ → ℕ) (clocks : List ℕ) (log : Log) → p.d.valid ≡ true → (p.d.pc == p.npc) ≡ false
+    → end_of p.m ≡ None
     → Claim Dropped p false value pc memory memory clocks log log
 unfolding entries_after npc_after issued_after completed_path
 waits-dropped p value pc memory clocks log v e h =
@@ -254,7 +258,8 @@ pub not_both : (b : Bool) → (b && false) ≡ true → ⊥
 not_both true h = absurd cc
 not_both false h = absurd cc
 
-pub waits : (f : Fate) (p : Pipe) (value pc : ℕ) (memory : ℕ → ℕ) (clocks : List ℕ) (log : Log) → fate_of p.d p.npc p.m p.w false ≡ f → end_of p.m ≡ None
+pub waits : (f : Fate) (p : Pipe) (value pc : ℕ) (memory : ℕ → ℕ) (clocks : List ℕ) (log : Log) → fate_of p.d p.npc p.m p.w false ≡ f
+    → end_of p.m ≡ None
     → Claim f p false value pc memory memory clocks log log
 waits Absent p value pc memory clocks log e h = waits-absent p value pc memory clocks log (fate-absent p false e) h
 waits Dropped p value pc memory clocks log e h = let d = fate-dropped p false e in waits-dropped p value pc memory clocks log d.0 d.1 h

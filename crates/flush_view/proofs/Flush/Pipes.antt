@@ -127,7 +127,8 @@ below : (image : LoadedImage) (i j : Item) (items : List Item) (at : Arch) → i
 unfolding completed_path
 below image i j items at e f = below_by image i.pc j.pc (completed_item image i at) (completed_item image j at) items at e f
 
-pub completed_with : (image : LoadedImage) (op : Op) (pc a b x y : ℕ) (at : Arch) → a ≡ x → b ≡ y → completed image op pc a b at ≡ completed image op pc x y at
+pub completed_with : (image : LoadedImage) (op : Op) (pc a b x y : ℕ) (at : Arch) → a ≡ x → b ≡ y
+    → completed image op pc a b at ≡ completed image op pc x y at
 completed_with image op pc a b x y at e f = rw (e, f) refl
 
 -- ID takes the first entry
@@ -146,7 +147,8 @@ path-taken image x w old memory registers (e ∷ es) more at h =
 -- D that stays
 pub path-stalled : (image : LoadedImage) (m x : Action) (w next : ResultLatch) (memory after : ℕ → ℕ) (d : DecodedLatch) (rest : List Entry)
     (more : List Item) (at : Arch) → ((rs held : ℕ) → operand_held image x next after rs (late w rs held) ≡ operand_held image m w memory rs held)
-    → completed_path image (path_of image x next after (stalled d w) rest ++ more) at ≡ completed_path image (path_of image m w memory d rest ++ more) at
+    → completed_path image (path_of image x next after (stalled d w) rest ++ more) at
+    ≡ completed_path image (path_of image m w memory d rest ++ more) at
 path-stalled image m x w next memory after d rest more at same = go d.valid
   where
     go : (v : Bool)

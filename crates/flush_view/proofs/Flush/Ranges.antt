@@ -58,7 +58,8 @@ operand-below image m w memory rs held small bytes v h =
     subst (λ n. n < 2 ^ 32) (sym (settled-operand m w rs held (given image m memory) (written-by image m memory)))
     (go (rs == 0) (rs == written_register m) (rs == w.rd) (given_below image m memory small bytes))
   where
-    go : (a b c : Bool) → given image m memory < 2 ^ 32 → (if a then held else (if b then given image m memory else (if c then w.value else held))) < 2 ^ 32
+    go : (a b c : Bool) → given image m memory < 2 ^ 32
+        → (if a then held else (if b then given image m memory else (if c then w.value else held))) < 2 ^ 32
     go true b c g = h
     go false true c g = g
     go false false true g = v
@@ -81,7 +82,8 @@ item-in_range image item at small is = record {
   pc = next_address-below item.op item.pc (item.a at.registers) _;
 }
 
-pub path-in_range : (image : LoadedImage) (items : List Item) (at : Arch) → All IsSmallItem items → InRange at → InRange (completed_path image items at)
+pub path-in_range : (image : LoadedImage) (items : List Item) (at : Arch) → All IsSmallItem items → InRange at
+    → InRange (completed_path image items at)
 unfolding completed_path
 path-in_range image [] at small is = is
 path-in_range image (item ∷ items) at small is =

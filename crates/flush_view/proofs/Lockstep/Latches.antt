@@ -7,7 +7,8 @@ use Rattle.inst_buf.specs.Buffer.{entries}
 use Rattle.inst_buf.specs.Entry.{Entry}
 use Rattle.pipe_latch.specs.Forwarding.{late, operand}
 use Rattle.pipe_latch.specs.Latches.{DecodedLatch, ExecutedLatch, ResultLatch, no_executed}
-use Rattle.pipe_latch.specs.LatchedActions.{action_of}
+use Rattle.pipe_latch.specs.LatchedActions.{action_of, kind_number}
+use Rattle.pipe_latch.specs.declared.kinds.ExMemKind.TheVariants.{Trap}
 use Rattle.pipe_latch.proofs.Latches.{action_of-cause, action_of-invalid, action_of-no_executed}
 use Rattle.cyc_machine.specs.Pipeline.{fate_of, operand_b, written_registers}
 use Rattle.cyc_machine.specs.declared.fate.Fate.{Fate}
@@ -26,9 +27,9 @@ entries-read (e ∷ slots) = entries_by e slots e.valid refl (entries-read slots
 
 -- EX/MEM does what is read of it
 pub action-read : (m : ExecutedLatch) → action_of (read_of_executed m) ≡ action_of m
-action-read m = go m.valid refl (m.kind == 11) refl
+action-read m = go m.valid refl (m.kind == kind_number Trap) refl
   where
-    go : (v : Bool) → m.valid ≡ v → (k : Bool) → (m.kind == 11) ≡ k → action_of (read_of_executed m) ≡ action_of m
+    go : (v : Bool) → m.valid ≡ v → (k : Bool) → (m.kind == kind_number Trap) ≡ k → action_of (read_of_executed m) ≡ action_of m
     go false is k h =
         let other : read_of_executed m ≡ no_executed = rw is refl in
         ap action_of other ∙ action_of-no_executed ∙ sym (action_of-invalid m is)
@@ -40,9 +41,9 @@ action-read m = go m.valid refl (m.kind == 11) refl
         ap action_of other ∙ action_of-cause m 0 (λ e. grind (arith, nat_tests))
 
 pub valid-read : (m : ExecutedLatch) → (read_of_executed m).valid ≡ m.valid
-valid-read m = go m.valid refl (m.kind == 11) refl
+valid-read m = go m.valid refl (m.kind == kind_number Trap) refl
   where
-    go : (v : Bool) → m.valid ≡ v → (k : Bool) → (m.kind == 11) ≡ k → (read_of_executed m).valid ≡ m.valid
+    go : (v : Bool) → m.valid ≡ v → (k : Bool) → (m.kind == kind_number Trap) ≡ k → (read_of_executed m).valid ≡ m.valid
     go false is k h = rw is refl
     go true is true h = rw (is, h) refl
     go true is false h = rw (is, h) refl
@@ -85,13 +86,16 @@ fate-empty : (d : DecodedLatch) (npc : ℕ) (m : Action) (w : ResultLatch) (goes
 unfolding fate_of
 fate-empty d npc m w goes is = rw is refl
 
-fate-read : (d : DecodedLatch) (npc : ℕ) (m : Action) (w : ResultLatch) (goes : Bool) → fate_of d npc m (read_of_result w) goes ≡ fate_of d npc m w goes
+fate-read : (d : DecodedLatch) (npc : ℕ) (m : Action) (w : ResultLatch) (goes : Bool)
+    → fate_of d npc m (read_of_result w) goes ≡ fate_of d npc m w goes
 unfolding fate_of operand_b
 fate-read d npc m w goes = rw (operand-read m w d.rs1 d.a, operand-read m w d.rs2 d.b) refl
 
 -- so what becomes of it is the same, and with it what is computed from it, where an empty ID/EX isn't read
-pub same-by_d : {A : Type 0} (g : Fate → DecodedLatch → A) (d e : DecodedLatch) (npc : ℕ) (m : Action) (v w : ResultLatch) (goes : Bool) → SameDecoded d e
-    → read_of_result v ≡ read_of_result w → ((x y : DecodedLatch) → g Absent x ≡ g Absent y) → g (fate_of d npc m v goes) d ≡ g (fate_of e npc m w goes) e
+pub same-by_d : {A : Type 0} (g : Fate → DecodedLatch → A) (d e : DecodedLatch) (npc : ℕ) (m : Action) (v w : ResultLatch) (goes : Bool)
+    → SameDecoded d e
+    → read_of_result v ≡ read_of_result w → ((x y : DecodedLatch) → g Absent x ≡ g Absent y)
+    → g (fate_of d npc m v goes) d ≡ g (fate_of e npc m w goes) e
 same-by_d g d e npc m v w goes (Same is) same apart =
     ap (λ f. g f d) (sym (fate-read d npc m v goes) ∙ ap (λ r. fate_of d npc m r goes) same ∙ fate-read d npc m w goes)
     ∙ ap (λ x. g (fate_of x npc m w goes) x) is

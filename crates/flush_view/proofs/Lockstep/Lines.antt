@@ -63,7 +63,8 @@ found-whole shape cache line w h = full-read (cache (set_of shape line) w) (foun
 
 -- so is the word that is read of it
 word-read : (shape : Shape) (cache : Slots) (line word : ℕ) (o : Option ℕ) → way_of shape cache line ≡ o
-    → option_map (λ way. word_at (cache (set_of shape line) way) word) o ≡ option_map (λ way. word_at (read_slots cache (set_of shape line) way) word) o
+    → option_map (λ way. word_at (cache (set_of shape line) way) word) o
+    ≡ option_map (λ way. word_at (read_slots cache (set_of shape line) way) word) o
 word-read shape cache line word (Some w) h = ap (λ (slot : Slot). Some (word_at slot word)) (sym (found-whole shape cache line w h))
 word-read shape cache line word None h = refl
 

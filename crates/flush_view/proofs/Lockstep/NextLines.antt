@@ -31,7 +31,8 @@ use Rattle.wb_cache.proofs.Ways.{Slots, found-valid}
 
 -- ---- slots
 
-put-read : (set way : ℕ) (slot : Slot) (cache : Slots) → read_slots (put_slot set way slot cache) ≡ put_slot set way (read_of_slot slot) (read_slots cache)
+put-read : (set way : ℕ) (slot : Slot) (cache : Slots)
+    → read_slots (put_slot set way slot cache) ≡ put_slot set way (read_of_slot slot) (read_slots cache)
 put-read set way slot cache = fun_ext (λ s. fun_ext (λ w. go s w (s == set && w == way)))
   where
     go : (s w : ℕ) (b : Bool) → read_of_slot (cond b slot (cache s w)) ≡ cond b (read_of_slot slot) (read_of_slot (cache s w))
@@ -53,7 +54,8 @@ back-read : (image : LoadedImage) (shape : Shape) (set : ℕ) (slot : Slot) (ram
 unfolding slot_written_back
 back-read image shape set slot ram = fun_ext (λ p. go p slot.valid refl)
   where
-    go : (p : ℕ) (b : Bool) → slot.valid ≡ b → slot_written_back image shape set (read_of_slot slot) ram p ≡ slot_written_back image shape set slot ram p
+    go : (p : ℕ) (b : Bool) → slot.valid ≡ b
+        → slot_written_back image shape set (read_of_slot slot) ram p ≡ slot_written_back image shape set slot ram p
     go p true is = rw is refl
     go p false is = rw is refl
 
@@ -172,7 +174,8 @@ nodes-moved image c memory load store Leaves t = refl
 -- ---- main memory
 
 -- two lists of main memory's length that give the same bytes are the same
-same_bytes : (image : LoadedImage) (m n : List ℕ) → length m ≡ length image.ram → length n ≡ length image.ram → ram_byte image m ≡ ram_byte image n → m ≡ n
+same_bytes : (image : LoadedImage) (m n : List ℕ) → length m ≡ length image.ram → length n ≡ length image.ram → ram_byte image m ≡ ram_byte image n
+    → m ≡ n
 unfolding ram_byte
 same_bytes image m n long as_long same = ext_get_or 0 m n (long ∙ sym as_long) byte
   where

@@ -33,7 +33,8 @@ drained_by-masked : (c : Contents) (e : Entry) (o : Option ℕ) → masked_move 
 drained_by-masked c e (Some way) = refl
 drained_by-masked c e None = refl
 
-starts-masked : (c : Contents) (load : Option ℕ) (store : Option Entry) → masked_move (starts c load store) ≡ starts c load (option_map masked_entry store)
+starts-masked : (c : Contents) (load : Option ℕ) (store : Option Entry)
+    → masked_move (starts c load store) ≡ starts c load (option_map masked_entry store)
 starts-masked c (Some word) store = read_by-masked c word (found c (word / 4))
 starts-masked c None (Some e) = drained_by-masked c e (found c (e.addr / 4))
 starts-masked c None None = refl
@@ -51,7 +52,8 @@ continues-masked count c (Some word) = go (nat_lt 1 count)
     go true = refl
     go false = filled_by-masked c (word / 4) (found c (word / 4))
 
-owned-masked : (owner : Bool) (load : Option ℕ) (store : Option Entry) → owned_word owner load (option_map masked_entry store) ≡ owned_word owner load store
+owned-masked : (owner : Bool) (load : Option ℕ) (store : Option Entry)
+    → owned_word owner load (option_map masked_entry store) ≡ owned_word owner load store
 owned-masked true load (Some e) = refl
 owned-masked true load None = refl
 owned-masked false load store = refl
@@ -64,7 +66,8 @@ move-masked port c load store = go (port.count == 0)
     go : (b : Bool) → masked_move (if b then starts c load store else continues port.count c (owned_word port.owner load store))
         ≡ (if b then starts c load (option_map masked_entry store) else continues port.count c (owned_word port.owner load (option_map masked_entry store)))
     go true = starts-masked c load store
-    go false = continues-masked port.count c (owned_word port.owner load store) ∙ ap (continues port.count c) (sym (owned-masked port.owner load store))
+    go false =
+        continues-masked port.count c (owned_word port.owner load store) ∙ ap (continues port.count c) (sym (owned-masked port.owner load store))
 
 -- ---- what a cycle takes of it
 
@@ -101,7 +104,8 @@ stray-masked : (image : LoadedImage) (es : List Entry) → without_stray image (
 stray-masked image [] = refl
 stray-masked image (e ∷ es) = go (word_in_ram image e.addr)
   where
-    go : (b : Bool) → (if (not b) then masked_entries es else (masked_entry e ∷ masked_entries es)) ≡ masked_entries (if (not b) then es else (e ∷ es))
+    go : (b : Bool) → (if (not b) then masked_entries es else (masked_entry e ∷ masked_entries es))
+        ≡ masked_entries (if (not b) then es else (e ∷ es))
     go true = refl
     go false = refl
 
@@ -125,12 +129,14 @@ freed-masked [] = refl
 freed-masked (e ∷ es) = ap (λ (xs : List Entry). read_of_pending e ∷ xs) (freed-masked es)
 
 -- the slots that hold a list of stores
-packed-read : (es : List Entry) → map read_of_pending (packed es) ≡ map freed (masked_entries es) ++ map read_of_pending (replicate (4 - length es) no_entry)
+packed-read : (es : List Entry)
+    → map read_of_pending (packed es) ≡ map freed (masked_entries es) ++ map read_of_pending (replicate (4 - length es) no_entry)
 packed-read es =
     map-append read_of_pending es (replicate (4 - length es) no_entry)
     ∙ ap (λ (xs : List Entry). xs ++ map read_of_pending (replicate (4 - length es) no_entry)) (freed-masked es)
 
-packed-same : (es others : List Entry) → masked_entries es ≡ masked_entries others → map read_of_pending (packed es) ≡ map read_of_pending (packed others)
+packed-same : (es others : List Entry) → masked_entries es ≡ masked_entries others
+    → map read_of_pending (packed es) ≡ map read_of_pending (packed others)
 packed-same es others same =
     packed-read es
     ∙ ap (λ (xs : List Entry). map freed xs ++ map read_of_pending (replicate (4 - length es) no_entry)) same

@@ -91,7 +91,8 @@ load_client-masked image (Puts value) es = refl
 load_client-masked image (Exits value) es = refl
 load_client-masked image (Traps cause) es = refl
 
-store_client-masked : (image : LoadedImage) (es : List Entry) → store_client image (masked_entries es) ≡ option_map masked_entry (store_client image es)
+store_client-masked : (image : LoadedImage) (es : List Entry)
+    → store_client image (masked_entries es) ≡ option_map masked_entry (store_client image es)
 unfolding store_client
 store_client-masked image [] = refl
 store_client-masked image (e ∷ es) = go (word_in_ram image e.addr)
@@ -101,7 +102,8 @@ store_client-masked image (e ∷ es) = go (word_in_ram image e.addr)
     go false = refl
 
 -- whether M leaves, and the value for its register
-served-masked : (image : LoadedImage) (m : Action) (es : List Entry) (read : Option ℕ) → served image m (masked_entries es) read ≡ served image m es read
+served-masked : (image : LoadedImage) (m : Action) (es : List Entry) (read : Option ℕ)
+    → served image m (masked_entries es) read ≡ served image m es read
 unfolding served load_value
 served-masked image (Loads kind rd x) es read = rw (covered-masked es (x / 4) (lane_mask (load_size kind) x)) refl
 served-masked image Nothing es read = refl
@@ -119,8 +121,10 @@ module _ (es others : List Entry) (same : masked_entries es ≡ masked_entries o
   pub load_client-same : (image : LoadedImage) (m : Action) → load_client image m es ≡ load_client image m others
   load_client-same image m = sym (load_client-masked image m es) ∙ ap (load_client image m) same ∙ load_client-masked image m others
 
-  pub store_client-same : (image : LoadedImage) → option_map masked_entry (store_client image es) ≡ option_map masked_entry (store_client image others)
+  pub store_client-same : (image : LoadedImage)
+      → option_map masked_entry (store_client image es) ≡ option_map masked_entry (store_client image others)
   store_client-same image = sym (store_client-masked image es) ∙ ap (store_client image) same ∙ store_client-masked image others
 
   pub served-same : (image : LoadedImage) (m : Action) (read : Option ℕ) → served image m es read ≡ served image m others read
-  served-same image m read = sym (served-masked image m es read) ∙ ap (λ (x : List Entry). served image m x read) same ∙ served-masked image m others read
+  served-same image m read =
+      sym (served-masked image m es read) ∙ ap (λ (x : List Entry). served image m x read) same ∙ served-masked image m others read

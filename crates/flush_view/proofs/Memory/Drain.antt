@@ -51,8 +51,10 @@ drained-holds shape e way cache line s w = go (place (set_of shape (e.addr / 4))
         ∙ ap (holds shape line) (sym (ap (λ n. cache n w) p ∙ ap (cache (set_of shape (e.addr / 4))) q))
     go (There ne is) = ap (holds shape line) is
 
-drained-way : (shape : Shape) (e : Entry) (way : ℕ) (cache : Slots) (line : ℕ) → way_of shape (drained shape e way cache) line ≡ way_of shape cache line
-drained-way shape e way cache line = way-same shape (drained shape e way cache) cache line (λ w l. drained-holds shape e way cache line (set_of shape line) w)
+drained-way : (shape : Shape) (e : Entry) (way : ℕ) (cache : Slots) (line : ℕ)
+    → way_of shape (drained shape e way cache) line ≡ way_of shape cache line
+drained-way shape e way cache line =
+    way-same shape (drained shape e way cache) cache line (λ w l. drained-holds shape e way cache line (set_of shape line) w)
 
 -- the way where the byte's line is found
 same_way : (v u : ℕ) → Some v ≡ Some u → v ≡ u

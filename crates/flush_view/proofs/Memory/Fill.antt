@@ -21,7 +21,8 @@ written image shape line way cache ram = slot_written_back image shape (set_of s
 abbrev pub filled : LoadedImage → Shape → ℕ → ℕ → Slots → (ℕ → ℕ) → Slots
 filled image shape line way cache ram = put_slot (set_of shape line) way (filled_slot shape (written image shape line way cache ram) line) cache
 
-filled-tag : (shape : Shape) (ram : ℕ → ℕ) (line other : ℕ) → holds shape other (filled_slot shape ram line) ≡ (tag_of shape line == tag_of shape other)
+filled-tag : (shape : Shape) (ram : ℕ → ℕ) (line other : ℕ)
+    → holds shape other (filled_slot shape ram line) ≡ (tag_of shape line == tag_of shape other)
 unfolding filled_slot
 filled-tag shape ram line other = refl
 
@@ -52,7 +53,8 @@ clean_byte image shape set slot ram p clean = grind (arith, nat_tests)
 
 -- a byte that is written back
 back_byte : (image : LoadedImage) (shape : Shape) (set : ℕ) (slot : Slot) (ram : ℕ → ℕ) (p : ℕ) → set_of shape (p / 16) ≡ set
-    → holds shape (p / 16) slot ≡ true → slot.dirty ≡ true → in_ram image p ≡ true → slot_written_back image shape set slot ram p ≡ slot.bytes (p % 16)
+    → holds shape (p / 16) slot ≡ true → slot.dirty ≡ true → in_ram image p ≡ true
+    → slot_written_back image shape set slot ram p ≡ slot.bytes (p % 16)
 unfolding slot_written_back
 back_byte image shape set slot ram p s h dirty inside = grind (arith, nat_tests)
 
@@ -139,7 +141,8 @@ module _ (image : LoadedImage) (shape : Shape) (line way : ℕ) (cache : Slots) 
       → (after (set_of shape other) w).bytes (p % 16) ≡ (cache (set_of shape other) w).bytes (p % 16)
   quiet-byte other p w h apart = go (at (set_of shape other) w)
     where
-      go : Place set way new cache (set_of shape other) w → (after (set_of shape other) w).bytes (p % 16) ≡ (cache (set_of shape other) w).bytes (p % 16)
+      go : Place set way new cache (set_of shape other) w
+          → (after (set_of shape other) w).bytes (p % 16) ≡ (cache (set_of shape other) w).bytes (p % 16)
       go (Here s q is) = absurd (apart s (ap (holds shape other) (sym (victim_there (set_of shape other) w s q)) ∙ h))
       go (There off is) = ap (λ (slot : Slot). slot.bytes (p % 16)) is
 
@@ -166,12 +169,14 @@ module _ (image : LoadedImage) (shape : Shape) (line way : ℕ) (cache : Slots) 
       fails false f = refl
 
       go : (w : ℕ) → w < shape.ways → Place set way new cache (set_of shape other) w → has shape after other w ≡ false
-      go w l (Here t q is) = fails (has shape after other w) (λ k. ne (new_line other (set_of shape other) w refl t (ap (holds shape other) (sym is) ∙ k)))
+      go w l (Here t q is) =
+          fails (has shape after other w) (λ k. ne (new_line other (set_of shape other) w refl t (ap (holds shape other) (sym is) ∙ k)))
       go w l (There off is) =
           fails (has shape after other w)
           (λ k. off s (single w way l below (ap (holds shape other) (sym is) ∙ k) (ap (λ n. holds shape other (cache n way)) s ∙ h)))
 
-  was-way : (other : ℕ) → set_of shape other ≡ set → holds shape other victim ≡ true → IsSingle shape cache other → way_of shape cache other ≡ Some way
+  was-way : (other : ℕ) → set_of shape other ≡ set → holds shape other victim ≡ true → IsSingle shape cache other
+      → way_of shape cache other ≡ Some way
   was-way other s h single =
       let there : has shape cache other way ≡ true = ap (λ n. holds shape other (cache n way)) s ∙ h in
       way-only shape cache other way below there (λ v l k. single v way l below k there)

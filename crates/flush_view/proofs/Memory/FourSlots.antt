@@ -14,7 +14,8 @@ over-free e p below free =
     let lanes : has_lane e.mask (p % 4) ≡ false = ap (λ (m : ℕ). has_lane m (p % 4)) (mask-free e free) ∙ rw (bit_at-zero (p % 4)) in
     grind (arith, nat_tests)
 
-overlaid_kept : (e : Entry) (stores slots : List Entry) (p below : ℕ) (b : Bool) → is_pending e ≡ b → ((x : ℕ) → overlaid stores p x ≡ overlaid slots p x)
+overlaid_kept : (e : Entry) (stores slots : List Entry) (p below : ℕ) (b : Bool) → is_pending e ≡ b
+    → ((x : ℕ) → overlaid stores p x ≡ overlaid slots p x)
     → overlaid (cond b (e ∷ stores) stores) p below ≡ overlaid slots p (over e p below)
 unfolding overlaid
 overlaid_kept e stores slots p below true used same = same (over e p below)
@@ -36,5 +37,6 @@ four_slots (a ∷ b ∷ c ∷ d ∷ []) p below four = refl
 four_slots (a ∷ b ∷ c ∷ d ∷ e ∷ es) p below four = absurd (omega arith)
 
 pub overlaid_slots : (slots : List Entry) (p below : ℕ) → length slots ≡ 4
-    → over (slot_of slots 3) p (over (slot_of slots 2) p (over (slot_of slots 1) p (over (slot_of slots 0) p below))) ≡ overlaid (pending slots) p below
+    → over (slot_of slots 3) p (over (slot_of slots 2) p (over (slot_of slots 1) p (over (slot_of slots 0) p below)))
+    ≡ overlaid (pending slots) p below
 overlaid_slots slots p below four = four_slots slots p below four ∙ sym (overlaid-pending slots p below)

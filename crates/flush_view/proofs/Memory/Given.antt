@@ -44,7 +44,8 @@ word_read-is c line word way v hit e =
     the_word : (a b : ℕ) → Some a ≡ Some b → a ≡ b
     the_word a b e = cc
 
-read-byte : (c : Contents) (ram : ℕ → ℕ) (word way v p : ℕ) → AreBytes c.bytes → found c (word / 4) ≡ Some way → word_of c (word / 4) (word % 4) ≡ Some v
+read-byte : (c : Contents) (ram : ℕ → ℕ) (word way v p : ℕ) → AreBytes c.bytes → found c (word / 4) ≡ Some way
+    → word_of c (word / 4) (word % 4) ≡ Some v
     → p / 4 ≡ word → byte_of v (p % 4) ≡ cached c.shape ram (slots c) p
 unfolding cached
 read-byte c ram word way v p is hit e at =
@@ -60,7 +61,8 @@ read-byte c ram word way v p is hit e at =
 
 -- ---- what a cover says
 
-full : (es : List Entry) (addr lanes word : ℕ) → covered es addr lanes ≡ Full word → (all_found es addr lanes ≡ true) × (word ≡ word_found es addr lanes)
+full : (es : List Entry) (addr lanes word : ℕ) → covered es addr lanes ≡ Full word
+    → (all_found es addr lanes ≡ true) × (word ≡ word_found es addr lanes)
 unfolding covered
 full es addr lanes word h = go (all_found es addr lanes) (none_found es addr lanes) h
   where
@@ -136,7 +138,8 @@ module _ (s : State) (is : IsSteady s) (kind : LoadKind) (rd x : ℕ) (word : wo
   by_case m Uncovered None t h e goes = absurd (true≢false (sym goes))
 
 load-value : (s : State) (is : IsSteady s) (kind : LoadKind) (rd x : ℕ) (m : Move) (b : Bool)
-    → Tells s.cache (load_client s.image (Loads kind rd x) (pending s.stores)) (store_client s.image (pending s.stores)) m → word_in_ram s.image (x / 4) ≡ b
+    → Tells s.cache (load_client s.image (Loads kind rd x) (pending s.stores)) (store_client s.image (pending s.stores)) m
+    → word_in_ram s.image (x / 4) ≡ b
     → (served_by (if b then covered_value (covered (pending s.stores) (x / 4) (lane_mask (load_size kind) x)) (word_read m s.cache) kind x
     else Some 0)).goes ≡ true
     → (served_by (if b then covered_value (covered (pending s.stores) (x / 4) (lane_mask (load_size kind) x)) (word_read m s.cache) kind x

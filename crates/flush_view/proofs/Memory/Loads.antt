@@ -83,7 +83,8 @@ wanted-byte es addr lanes lane h = rw h refl
 
 -- full cover: each byte that is accessed is the view's
 pub covered-byte : (es : List Entry) (kind : LoadKind) (x p b : ℕ) → accesses (load_size kind) x p ≡ true
-    → all_found es (x / 4) (lane_mask (load_size kind) x) ≡ true → byte_of (word_found es (x / 4) (lane_mask (load_size kind) x)) (p % 4) ≡ overlaid es p b
+    → all_found es (x / 4) (lane_mask (load_size kind) x) ≡ true
+    → byte_of (word_found es (x / 4) (lane_mask (load_size kind) x)) (p % 4) ≡ overlaid es p b
 unfolding all_found
 covered-byte es kind x p b a full =
     let lane : p % 4 < 4 = omega arith in

@@ -73,7 +73,8 @@ module _ (s : State) (is : IsSteady s) where
 
   coherent-kept : (out : ℕ → Bool) → IsCoherent out s → IsCoherent out (cycle s)
   unfolding cycled
-  coherent-kept out coherent = coherent-as out next_cache.shape (ram_byte s.image next_memory) (slots next_cache) next-shape next-ram next-slots coherent
+  coherent-kept out coherent =
+      coherent-as out next_cache.shape (ram_byte s.image next_memory) (slots next_cache) next-shape next-ram next-slots coherent
 
   -- a byte of RAM
   view-inside : (out : ℕ → Bool) → IsCoherent out s → (p : ℕ) → out (p / 16) ≡ false → in_ram s.image p ≡ true

@@ -29,7 +29,8 @@ pub slots-moved : (image : LoadedImage) (c : Contents) (memory : List ℕ) (load
 unfolding cache_after
 slots-moved image c memory load store Rests is long sized t = refl
 slots-moved image c memory load store (Reads word way) is long sized t = slots-after_read c (word / 4)
-slots-moved image c memory load store (Drains e way) is long sized t = slots-after_write c (e.addr / 4) (e.addr % 4) e.mask e.value way sized (omega arith) t.1
+slots-moved image c memory load store (Drains e way) is long sized t =
+    slots-after_write c (e.addr / 4) (e.addr % 4) e.mask e.value way sized (omega arith) t.1
 slots-moved image c memory load store (Misses line way count owner) is long sized t = refl
 slots-moved image c memory load store Waits is long sized t = refl
 slots-moved image c memory load store Leaves is long sized t = refl

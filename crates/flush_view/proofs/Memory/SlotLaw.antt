@@ -39,7 +39,8 @@ module _ (image : LoadedImage) (c : Contents) (ram : ℕ → ℕ) (load : Option
   moved-coherent out (Misses line way count owner) t coherent = coherent
   moved-coherent out Waits t coherent = coherent
   moved-coherent out Leaves t coherent = coherent
-  moved-coherent out (Fills line way) t coherent = filled-coherent image c.shape line way (slots c) ram (way_below c line way sized t.1) t.0 out coherent
+  moved-coherent out (Fills line way) t coherent =
+      filled-coherent image c.shape line way (slots c) ram (way_below c line way sized t.1) t.0 out coherent
 
 -- the byte that the stores that are kept, the cache and main memory give
 module _ (image : LoadedImage) (c : Contents) (ram : ℕ → ℕ) (load : Option ℕ) (stores : List Entry) (is : IsImage image) (sized : IsSized c) where

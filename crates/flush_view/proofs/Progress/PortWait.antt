@@ -96,7 +96,8 @@ hits_some c o word way e h = rw (e, h) refl
 
 fills : (port : PortState) (c : Contents) (load : Option ℕ) (store : Option Entry) (word : ℕ) (o : Option ℕ) → found c (word / 4) ≡ o → 0 < port.count
     → owned_word port.owner load store ≡ Some word → Timed port c load store (filled_by o c (word / 4))
-fills port c load store word (Some way) h some own = (some, λ r. hits_some c (client load store) word way (sym (owned port.owner load store r) ∙ own) h)
+fills port c load store word (Some way) h some own =
+    (some, λ r. hits_some c (client load store) word way (sym (owned port.owner load store r) ∙ own) h)
 fills port c load store word None h some own = (some, h, refl, λ r. (word, sym (owned port.owner load store r) ∙ own, refl))
 
 waits : (port : PortState) (c : Contents) (load : Option ℕ) (store : Option Entry) (word : ℕ) (b : Bool) → nat_lt 1 port.count ≡ b → 0 < port.count
@@ -104,7 +105,8 @@ waits : (port : PortState) (c : Contents) (load : Option ℕ) (store : Option En
 waits port c load store word true h some own = grind (arith, nat_tests)
 waits port c load store word false h some own = fills port c load store word (found c (word / 4)) refl some own
 
-go_on : (port : PortState) (c : Contents) (load : Option ℕ) (store : Option Entry) (o : Option ℕ) → owned_word port.owner load store ≡ o → 0 < port.count
+go_on : (port : PortState) (c : Contents) (load : Option ℕ) (store : Option Entry) (o : Option ℕ) → owned_word port.owner load store ≡ o
+    → 0 < port.count
     → Timed port c load store (continues port.count c o)
 go_on port c load store None own some = (some, λ r. absurd (none_owned port.owner load store own r))
 go_on port c load store (Some word) own some = waits port c load store word (nat_lt 1 port.count) refl some own

@@ -98,7 +98,8 @@ full n s h is v = occupied n s (below_bound (measure_of s) n (measure-below s is
 
 -- ---- EX/MEM is empty, and ID/EX is at the address that comes next
 
-ready : (c n : ℕ) (s : State) → 131 + c ≤ n → IsSteady s → s.m.valid ≡ false → s.d.valid ≡ true → (s.d.pc == s.npc) ≡ true → s.d.count ≡ c → Leaves n s
+ready : (c n : ℕ) (s : State) → 131 + c ≤ n → IsSteady s → s.m.valid ≡ false → s.d.valid ≡ true → (s.d.pc == s.npc) ≡ true → s.d.count ≡ c
+    → Leaves n s
 ready zero n s h is m v p k =
     later 130 n s (omega arith) (empty-end s m) (full 130 (cycle s) (omega arith) (steady-next s is) (goes_next s m v p (eq-eqb s.d.count 0 k)))
 ready (suc c) n s h is m v p k =

@@ -89,7 +89,8 @@ stuck-store image kind x y stores read h = record {
     full true e h = true≢false (e ∙ h)
     full false e h = true≢false h
 
-pub stuck : (image : LoadedImage) (a : Action) (stores : List Entry) (read : Option ℕ) → (served image a stores read).goes ≡ false → IsStuck image a stores
+pub stuck : (image : LoadedImage) (a : Action) (stores : List Entry) (read : Option ℕ) → (served image a stores read).goes ≡ false
+    → IsStuck image a stores
 unfolding served
 stuck image Nothing stores read h = absurd (true≢false h)
 stuck image (Writes rd value) stores read h = absurd (true≢false h)
@@ -124,7 +125,8 @@ read-goes image (Traps cause) stores c word way e h = refl
 -- ---- the stores that are kept
 
 -- the oldest stays, or one store less is pending
-stray-less : (image : LoadedImage) (stores : List Entry) → (without_stray image stores ≡ stores) ⊎ (suc (length (without_stray image stores)) ≤ length stores)
+stray-less : (image : LoadedImage) (stores : List Entry)
+    → (without_stray image stores ≡ stores) ⊎ (suc (length (without_stray image stores)) ≤ length stores)
 stray-less image [] = inl refl
 stray-less image (e ∷ es) = go (word_in_ram image e.addr)
   where
@@ -143,7 +145,8 @@ stray-gone image (e ∷ es) h some = go (word_in_ram image e.addr) h
     go true h = absurd cc
     go false h = omega arith
 
-drained-gone : (image : LoadedImage) (stores : List Entry) (e : Entry) → store_client image stores ≡ Some e → suc (length (younger stores)) ≤ length stores
+drained-gone : (image : LoadedImage) (stores : List Entry) (e : Entry) → store_client image stores ≡ Some e
+    → suc (length (younger stores)) ≤ length stores
 unfolding store_client
 drained-gone image [] e h = absurd cc
 drained-gone image (a ∷ es) e h = omega arith

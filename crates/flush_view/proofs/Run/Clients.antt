@@ -62,7 +62,8 @@ none-younger e stores addr lanes h =
     each (is_missing (e ∷ stores) addr lanes) (is_missing stores addr lanes)
     (λ lane. missing-younger (found_store stores addr lane) (held e addr lane) (has_lane lanes lane)) h
 
-uncovered-younger : (e : Entry) (stores : List Entry) (addr lanes : ℕ) → covered (e ∷ stores) addr lanes ≡ Uncovered → covered stores addr lanes ≡ Uncovered
+uncovered-younger : (e : Entry) (stores : List Entry) (addr lanes : ℕ) → covered (e ∷ stores) addr lanes ≡ Uncovered
+    → covered stores addr lanes ≡ Uncovered
 unfolding covered
 uncovered-younger e stores addr lanes h =
     go (all_found (e ∷ stores) addr lanes) (none_found (e ∷ stores) addr lanes) (all_found stores addr lanes) (none_found stores addr lanes)
@@ -91,7 +92,8 @@ asked-kept : (image : LoadedImage) (kind : LoadKind) (x word : ℕ) (stores : Li
 unfolding asked_word
 asked-kept image kind x word stores h = go (word_in_ram image (x / 4)) (covered stores (x / 4) (lane_mask (load_size kind) x)) refl h
   where
-    go : (b : Bool) (k : Cover) → covered stores (x / 4) (lane_mask (load_size kind) x) ≡ k → (if b then uncovered_word k (x / 4) else None) ≡ Some word
+    go : (b : Bool) (k : Cover) → covered stores (x / 4) (lane_mask (load_size kind) x) ≡ k
+        → (if b then uncovered_word k (x / 4) else None) ≡ Some word
         → (if b then uncovered_word (covered (without_stray image stores) (x / 4) (lane_mask (load_size kind) x)) (x / 4) else None) ≡ Some word
     go true Uncovered e h = ap (λ (k : Cover). uncovered_word k (x / 4)) (uncovered-kept image stores (x / 4) (lane_mask (load_size kind) x) e) ∙ h
     go true Part e h = absurd cc

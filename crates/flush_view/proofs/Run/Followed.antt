@@ -129,7 +129,8 @@ module _ (trace : ℕ → Arch) (p : Pipe) (memory : ℕ → ℕ) (clocks : List
         due = inr (action-due p memory a b clocks log sound parts.0 reached parts.3 parts.4 ∙ ap (next_action p.image) here, refl, stop);
       }
     where
-      so_far : (i : ℕ) → i < suc x → (trace x).stop ≡ None → (t : Bool) → (i == x) ≡ t → ((j : ℕ) → j < x → (trace j).stop ≡ None) → (trace i).stop ≡ None
+      so_far : (i : ℕ) → i < suc x → (trace x).stop ≡ None → (t : Bool) → (i == x) ≡ t → ((j : ℕ) → j < x → (trace j).stop ≡ None)
+          → (trace i).stop ≡ None
       so_far i l stop true q before = ap (λ j. (trace j).stop) (eqb-true i x q) ∙ stop
       so_far i l stop false q before = before i (grind (arith, nat_tests))
 
@@ -165,7 +166,8 @@ module _ (trace : ℕ → Arch) (p : Pipe) (memory : ℕ → ℕ) (clocks : List
   waited : (pc cycle : ℕ) (waiting : List Entry) (d : DecodedLatch) → Followed trace p memory clocks log e x
       → Followed trace (record p { pc = pc; waiting = waiting; d = d; w = no_result; registers = put_reg p.w.rd p.w.value p.registers; cycle = cycle })
       memory clocks log e x
-  waited pc cycle waiting d k = record { registers = k.registers; seen = k.seen; done = k.done; position = k.position; running = k.running; due = k.due }
+  waited pc cycle waiting d k =
+      record { registers = k.registers; seen = k.seen; done = k.done; position = k.position; running = k.running; due = k.due }
 
   pub waits-next : (f : Fate) (value pc : ℕ) → fate_pipe p false ≡ f → Before f
       → Followed trace (next_pipe f false value pc p) memory clocks log e (count_after f x)

@@ -80,7 +80,8 @@ followed-cycle trace s later log e x steps k h f =
 
 -- ---- reset
 
-latched-reset : (image : LoadedImage) (shape : Shape) (clocks : List ℕ) (registers memory : ℕ → ℕ) → registers ≡ (λ r. 0) → memory ≡ ram_byte image image.ram
+latched-reset : (image : LoadedImage) (shape : Shape) (clocks : List ℕ) (registers memory : ℕ → ℕ) → registers ≡ (λ r. 0)
+    → memory ≡ ram_byte image image.ram
     → Followed (trace_at image clocks) (record (piped (reset image shape)) { registers = registers; m = Nothing }) memory clocks
     (record { output = []; actions = [] }) 0 0
 unfolding reset after started

@@ -43,7 +43,8 @@ entry-next image e at same h =
     ap (λ (x : Entry). completed_item image (item_of_entry x) at) same ∙ fetched-next image e.pc at h
 
 -- and so is an ID/EX that holds the next instruction's decoding and operands, over whatever memory
-pub held-next : (image : LoadedImage) (m : Action) (w : ResultLatch) (memory : ℕ → ℕ) (d : DecodedLatch) (at : Arch) → op_of_latch d ≡ op_at image at.pc
+pub held-next : (image : LoadedImage) (m : Action) (w : ResultLatch) (memory : ℕ → ℕ) (d : DecodedLatch) (at : Arch)
+    → op_of_latch d ≡ op_at image at.pc
     → operand_held image m w memory d.rs1 d.a ≡ reg at.registers d.rs1 → operand_held image m w memory d.rs2 d.b ≡ reg at.registers d.rs2
     → d.pc ≡ at.pc → completed_item image (item_of_latch image m w memory d) at ≡ instruction image at
 unfolding instruction
@@ -62,7 +63,8 @@ latch-next s memory clocks log sound v e =
 
 module _ (image : LoadedImage) (trace : ℕ → Arch) (steps : Steps image trace) where
   -- one item, and the rest behind it
-  more : (x : ℕ) (item : Item) (items : List Item) → (is_reached item (trace x) ≡ true → completed_item image item (trace x) ≡ instruction image (trace x))
+  more : (x : ℕ) (item : Item) (items : List Item)
+      → (is_reached item (trace x) ≡ true → completed_item image item (trace x) ≡ instruction image (trace x))
       → completed_path image items (trace (x + 1)) ≡ trace (x + 1 + on_path trace (x + 1) items)
       → completed_path image (item ∷ items) (trace x) ≡ trace (x + on_path trace x (item ∷ items))
   unfolding completed_path on_path

@@ -65,7 +65,8 @@ occupied-after Stays false image d cycle issued m = refl
 abbrev one_if : Bool → ℕ
 one_if b = if b then 1 else 0
 
-counted_by : (f : Fate) (v l n : Bool) (x r : ℕ) → x ≡ r + one_if v → (goes f ≡ true → l ≡ true) → n ≡ (if goes f then true else (if l then false else v))
+counted_by : (f : Fate) (v l n : Bool) (x r : ℕ) → x ≡ r + one_if v → (goes f ≡ true → l ≡ true)
+    → n ≡ (if goes f then true else (if l then false else v))
     → count_after f x ≡ (if v && l then r + 1 else r) + one_if n
 counted_by Absent v l n x r e g h = grind (arith, nat_tests)
 counted_by Dropped v l n x r e g h = grind (arith, nat_tests)
@@ -136,7 +137,8 @@ module _ (image : LoadedImage) (shape : Shape) where
   retired-left t = let e = left-retired t in omega (arith, e)
 
   -- an instruction that is done
-  pub memory-next : (t : ℕ) → left_memory image shape (suc t) ≡ (if (served_m (at t)).goes then left_execute image shape t else left_memory image shape t)
+  pub memory-next : (t : ℕ)
+      → left_memory image shape (suc t) ≡ (if (served_m (at t)).goes then left_execute image shape t else left_memory image shape t)
   unfolding retired_after
   memory-next t =
       sym (retired-left (suc t))

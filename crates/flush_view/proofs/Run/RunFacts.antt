@@ -34,7 +34,8 @@ first_at : (trace : ℕ → Arch) (x : ℕ) (item : Item) (items : List Item) �
 unfolding on_path
 first_at trace x item items h = go (is_none (trace x).stop) (item.pc == (trace x).pc) refl h
   where
-    go : (a b : Bool) → (item.pc == (trace x).pc) ≡ b → nat_lt 0 (if a && b then on_path trace (x + 1) items + 1 else 0) ≡ true → item.pc ≡ (trace x).pc
+    go : (a b : Bool) → (item.pc == (trace x).pc) ≡ b → nat_lt 0 (if a && b then on_path trace (x + 1) items + 1 else 0) ≡ true
+        → item.pc ≡ (trace x).pc
     go true true e h = grind (arith, nat_tests)
     go true false e h = absurd cc
     go false b e h = absurd cc
@@ -45,7 +46,8 @@ latch_first true trace x item items h = (refl, first_at trace x item items h)
 latch_first false trace x item items h = absurd cc
 
 latch-pc : (s : State) (trace : ℕ → Arch) (x : ℕ) → is_latch_on_path s trace x ≡ true → (s.d.valid ≡ true) × (s.d.pc ≡ (trace x).pc)
-latch-pc s trace x on = latch_first s.d.valid trace x (item_of_latch s.image (action_in_m s) s.w (view s) s.d) (map item_of_entry (entries s.buffer)) on
+latch-pc s trace x on =
+    latch_first s.d.valid trace x (item_of_latch s.image (action_in_m s) s.w (view s) s.d) (map item_of_entry (entries s.buffer)) on
 
 -- an occupied ID/EX at the address of the state that W and M completed give holds the next instruction
 pub latch-holds : (s : State) (at : Arch) (clocks : List ℕ) (log : Log) → Sound (piped s) → s.d.valid ≡ true → s.d.pc ≡ at.pc

@@ -33,7 +33,8 @@ use Rattle.flush_view.proofs.Run.RunFacts.{facts-at}
 
 -- ---- the cycle that ends the run
 
-served-end : (image : LoadedImage) (m : Action) (es : List Entry) (read : Option ℕ) (end : End) → end_of m ≡ Some end → (served image m es read).goes ≡ true
+served-end : (image : LoadedImage) (m : Action) (es : List Entry) (read : Option ℕ) (end : End) → end_of m ≡ Some end
+    → (served image m es read).goes ≡ true
 unfolding served
 served-end image Nothing es read end h = refl
 served-end image (Writes rd value) es read end h = refl
@@ -59,7 +60,8 @@ same_put : (xs : List ℕ) (o : Option ℕ) → with_byte xs o ≡ with_one xs o
 same_put xs (Some byte) = refl
 same_put xs None = refl
 
-ends-as : (image : LoadedImage) (clocks fed : List ℕ) (n x : ℕ) (end : End) (output : List ℕ) → clocks ≡ fed → n ≡ x → EndsAfter image fed x end output
+ends-as : (image : LoadedImage) (clocks fed : List ℕ) (n x : ℕ) (end : End) (output : List ℕ) → clocks ≡ fed → n ≡ x
+    → EndsAfter image fed x end output
     → EndsAfter image clocks n end output
 ends-as image clocks fed n x end output e f h = rw (e, f) h
 
@@ -149,7 +151,8 @@ module _ (image : LoadedImage) (shape : Shape) (is : IsImage image) (fits : IsSh
       let one = soon (t - 256) t (omega arith) in
       omega (arith, before, one)
 
-  pub run-goes-on : (t n : ℕ) → IsRunning image shape t → 256 * n ≤ t → (later : List ℕ) → (trace_at image (clocks_below image shape t ++ later) n).stop ≡ None
+  pub run-goes-on : (t n : ℕ) → IsRunning image shape t → 256 * n ≤ t → (later : List ℕ)
+      → (trace_at image (clocks_below image shape t ++ later) n).stop ≡ None
   run-goes-on t n running h later =
       let enough = retired-enough n t h in
       let same = retired-left image shape t in

@@ -53,7 +53,8 @@ filled-fetched image pc es h = go (nat_lt (length es) 4)
     go true = All-push (λ entry. entry ≡ fetched image entry.pc) es (fetched image pc) h (fetched-same image pc)
     go false = h
 
-pub waiting-fetched : (image : LoadedImage) (f : Fate) (pc : ℕ) (es : List Entry) → AreFetched image es → AreFetched image (entries_after image f pc es)
+pub waiting-fetched : (image : LoadedImage) (f : Fate) (pc : ℕ) (es : List Entry) → AreFetched image es
+    → AreFetched image (entries_after image f pc es)
 unfolding entries_after
 waiting-fetched image Absent pc es h = filled-fetched image pc (drop 1 es) (All-drop (λ entry. entry ≡ fetched image entry.pc) 1 es h)
 waiting-fetched image Dropped pc es h = All-nil (λ entry. entry ≡ fetched image entry.pc)

@@ -59,7 +59,8 @@ module _ (shape : Shape) (out : ℕ → Bool) (ram : ℕ → ℕ) (cache : Slots
       go (There ne is) = sym (ap (λ (slot : Slot). slot.dirty) is) ∙ clean
 
   -- a way that holds a line no more was clean
-  gone : (line w : ℕ) → out line ≡ false → has shape cache line w ≡ true → has shape changed line w ≡ false → (cache (set_of shape line) w).dirty ≡ false
+  gone : (line w : ℕ) → out line ≡ false → has shape cache line w ≡ true → has shape changed line w ≡ false
+      → (cache (set_of shape line) w).dirty ≡ false
   gone line w o h none = go (place set way new cache (set_of shape line) w)
     where
       go : Place set way new cache (set_of shape line) w → (cache (set_of shape line) w).dirty ≡ false
@@ -106,7 +107,8 @@ module _ (shape : Shape) (out : ℕ → Bool) (ram : ℕ → ℕ) (cache : Slots
     unfolding cached
     replaced-cached = go (way_of shape cache (p / 16)) refl
       where
-        go : (found : Option ℕ) → way_of shape cache (p / 16) ≡ found → byte_in (way_of shape changed (p / 16)) (changed (set_of shape (p / 16))) p (ram p)
+        go : (found : Option ℕ) → way_of shape cache (p / 16) ≡ found
+            → byte_in (way_of shape changed (p / 16)) (changed (set_of shape (p / 16))) p (ram p)
             ≡ byte_in (way_of shape cache (p / 16)) (cache (set_of shape (p / 16))) p (ram p)
         go (Some w) e =
             let some = way-some shape cache (p / 16) w e in
@@ -158,7 +160,8 @@ module _ (shape : Shape) (cache : Slots) (set way : ℕ) (bytes : ℕ → ℕ) w
       ap (λ found. seen (byte_in found (other (set_of shape (p / 16))) p (ram p))) (other-way (p / 16))
       ∙ go (way_of shape cache (p / 16)) refl
     where
-      by_place : (w : ℕ) → has shape cache (p / 16) w ≡ true → Place set way (record (cache set way) { bytes = bytes }) cache (set_of shape (p / 16)) w
+      by_place : (w : ℕ) → has shape cache (p / 16) w ≡ true
+          → Place set way (record (cache set way) { bytes = bytes }) cache (set_of shape (p / 16)) w
           → seen ((other (set_of shape (p / 16)) w).bytes (p % 16)) ≡ seen ((cache (set_of shape (p / 16)) w).bytes (p % 16))
       by_place w h (Here s q is) =
           ap (λ (slot : Slot). seen (slot.bytes (p % 16))) is

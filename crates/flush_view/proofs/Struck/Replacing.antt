@@ -10,7 +10,8 @@ use Rattle.flush_view.specs.Struck.{IsOut, Replaces}
 use Rattle.wb_cache.proofs.Ways.{holds-tag}
 
 -- the line that a slot of a set holds
-pub held-line : (shape : Shape) (set line : ℕ) (slot : Slot) → set_of shape line ≡ set → holds shape line slot ≡ true → line ≡ line_of shape set slot.tag
+pub held-line : (shape : Shape) (set line : ℕ) (slot : Slot) → set_of shape line ≡ set → holds shape line slot ≡ true
+    → line ≡ line_of shape set slot.tag
 held-line shape set line slot s h = line_from_parts shape.sets line set slot.tag s (sym (holds-tag shape line slot h))
 
 -- so one line is all that has to be in X

@@ -19,7 +19,8 @@ use Rattle.flush_view.proofs.Struck.StoreSlots.{other-store, overlaid-seen}
 
 -- ---- what is not read
 
-means-same : (s : State) (pc : ℕ) (tables : Tables) (port : PortState) (count : ℕ) (nodes : List Bool) → MeansSame s (retimed pc tables port count nodes s)
+means-same : (s : State) (pc : ℕ) (tables : Tables) (port : PortState) (count : ℕ) (nodes : List Bool)
+    → MeansSame s (retimed pc tables port count nodes s)
 unfolding view flush slots slot_at
 means-same s pc tables port count nodes = record { view = refl; coherent = λ out coherent. coherent; flush = λ clocks log. refl }
 
@@ -55,7 +56,8 @@ replaced out s contents set way new is r coherent = record {
       (λ none. replaced-cached s.cache.shape out (ram_byte s.image s.memory) (slots s.cache) set way new is.within r coherent p o);
 }
 
-other-bytes : (s : State) (contents : Contents) (set way : ℕ) (bytes : ℕ → ℕ) → IsReplaced s contents set way (record (slots s.cache set way) { bytes = bytes })
+other-bytes : (s : State) (contents : Contents) (set way : ℕ) (bytes : ℕ → ℕ)
+    → IsReplaced s contents set way (record (slots s.cache set way) { bytes = bytes })
     → OtherBytes s contents set way bytes
 other-bytes s contents set way bytes is = record {
   coherent =
