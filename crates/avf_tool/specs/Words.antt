@@ -4,7 +4,7 @@ use Rattle.std.specs.Option.{option_and_then, option_map}
 use Rattle.std.specs.declared.alloc.Global.{Global}
 use Rattle.bit_field.specs.Shapes.{IsShape, plain}
 use Rattle.bit_field.specs.declared.shapes.Shape.{Shape}
-use Rattle.run_log.specs.declared.recording.TheConstants.{LONGEST_RUN}
+use Rattle.run_record.specs.declared.recorded.TheConstants.{LONGEST_RUN}
 use Rattle.avf_tool.specs.Numbers.{number}
 use Rattle.avf_tool.specs.declared.command.Task.{Task}
 use Rattle.avf_tool.specs.declared.command.Task.TheVariants.{Run, Dead}

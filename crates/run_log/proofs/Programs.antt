@@ -1,16 +1,15 @@
 -- A record is the instruction set's run, by the law of the run.
-use Rattle.std.proofs.Common.{◌≡◌, ℕ, zero, suc, ◌+◌, ◌≤◌, List, Bool, true, false, refl, ap, ◌∙◌, arith}
-use Rattle.std.specs.Prelude.{if◌then◌else◌}
+use Rattle.std.proofs.Common.{◌≡◌, ℕ, suc, ◌≤◌, List, refl, ap, ◌∙◌, arith}
 use Rattle.avf_base.specs.declared.end.End.{End}
 use Rattle.elf_load.specs.Image.{LoadedImage}
 use Rattle.bit_field.specs.declared.shapes.Shape.{Shape}
-use Rattle.cyc_machine.specs.Cycle.{retires}
-use Rattle.cyc_machine.specs.Run.{IsRunning, clocks_below, output_below, retired_after, retired_below, state_at}
+use Rattle.cyc_machine.specs.Run.{IsRunning, clocks_below, output_below, retired_below}
 use Rattle.flush_view.specs.RunLaw.{EndsAfter, RunLaw}
 use Rattle.run_record.specs.Journals.{closed}
 use Rattle.run_record.specs.declared.journal.Journal.{Journal}
 use Rattle.run_log.specs.Answers.{IsEndless, IsProgram, IsRunOf}
 use Rattle.run_record.specs.Run.{IsRecord, RecordedRun}
+use Rattle.run_record.proofs.Few.{record_few}
 
 ends_same : (image : LoadedImage) (clocks other : List ℕ) (n m : ℕ) (end : End) (output bytes : List ℕ) → clocks ≡ other → n ≡ m → output ≡ bytes
     → EndsAfter image other m end bytes → EndsAfter image clocks n end output
@@ -27,26 +26,13 @@ program r law is =
     (is.output ∙ ap (output_below r.image r.shape) cycles)
     (law.ends is.last r.end is.running is.ends)
 
--- a cycle retires one instruction at most
-one_more : (b : Bool) (n t : ℕ) → n ≤ t → (if b then n + 1 else n) ≤ suc t
-one_more true n t h = omega arith
-one_more false n t h = omega arith
-
-pub few_below : (image : LoadedImage) (shape : Shape) (t : ℕ) → retired_below image shape t ≤ t
-unfolding retired_after
-few_below image shape zero = omega arith
-few_below image shape (suc t) = one_more (retires (state_at image shape t)) (retired_below image shape t) t (few_below image shape t)
-
-few : (r : RecordedRun) → IsRecord r → r.instructions ≤ r.cycles
-few r is = let below = few_below r.image r.shape r.cycles in omega (arith, is.instructions)
-
 -- the record of a run that was written down to its end
 pub is_run : (image : LoadedImage) (shape : Shape) (budget cycles : ℕ) (end : End) (journal : Journal) → RunLaw image shape
     → IsRecord (closed image shape cycles end journal) → cycles ≤ budget → IsRunOf image shape budget (closed image shape cycles end journal)
 is_run image shape budget cycles end journal law is within = record {
   record_of = record { image_is = refl; shape_is = refl; within = within; is_record = is };
   program = program (closed image shape cycles end journal) law is;
-  few = few (closed image shape cycles end journal) is;
+  few = record_few (closed image shape cycles end journal) is;
 }
 
 pub endless : (image : LoadedImage) (shape : Shape) (budget : ℕ) → RunLaw image shape → IsRunning image shape budget → IsEndless image shape budget

@@ -5,8 +5,8 @@
 
 mod recording;
 
-pub use recording::{LONGEST_RUN, RecordError, record, record_shaped};
-pub use run_record::Recorded;
+pub use recording::{RecordError, record, record_shaped};
+pub use run_record::{LONGEST_RUN, Recorded};
 
 #[cfg(test)]
 mod tests;

@@ -15,13 +15,10 @@ use cyc_machine::Machine;
 use elf_load::Image;
 use flush_view::run_law;
 use pipe_latch::IdEx;
-use run_record::{Journal, Recorded};
+use run_record::{Journal, LONGEST_RUN, Recorded};
 use rv_table::is_clocked;
 use std::alloc::{AllocError, Global};
 use std::sync::ledger::Ledger;
-
-/// The greatest budget of a recorded run, in cycles.
-pub const LONGEST_RUN: u32 = 1_000_000;
 
 /// Why a run wasn't recorded.
 #[derive(Clone, Copy, Debug, PartialEq, Eq, thiserror::Error)]

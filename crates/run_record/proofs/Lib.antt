@@ -1,3 +1,4 @@
+pub mod Few
 pub mod Issued
 pub mod Noted
 pub mod Timed

@@ -1,5 +1,5 @@
 -- The issue cycles and clock values of a record are numbers of cycles in order.
-use Rattle.std.proofs.Common.{◌≡◌, ◌<◌, ◌++◌, ℕ, zero, suc, ◌+◌, Bool, length, refl, sym, ap, ◌∙◌, subst}
+use Rattle.std.proofs.Common.{◌≡◌, ◌<◌, ◌++◌, ℕ, zero, suc, Bool, length, refl, sym, ap, ◌∙◌, subst}
 use Rattle.std.specs.Prelude.{AllPairs, count_by, filter, nat_le, nat_lt}
 use Rattle.bit_field.specs.declared.shapes.Shape.{Shape}
 use Rattle.elf_load.specs.Image.{LoadedImage}

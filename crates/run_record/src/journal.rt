@@ -1,11 +1,11 @@
 // What is written down cycle by cycle.
-ghost use Rattle.std.specs.Prelude.{◌≡◌, ◌+◌, ◌<◌, ◌^◌, OnOk};
+ghost use Rattle.std.specs.Prelude.{◌≡◌, ◌+◌, ◌<◌, ◌≤◌, ◌^◌, OnOk};
 ghost use Rattle.cyc_machine.specs.Run.{with_one};
 ghost use Rattle.run_record.specs.Journals.{Adds, IsEmpty};
 ghost use Rattle.run_record.specs.Journals as journals;
 ghost use Rattle.run_record.specs.Run.{IsRecord};
 
-use crate::recorded::Recorded;
+use crate::recorded::{LONGEST_RUN, Recorded};
 use avf_base::End;
 use bit_field::Shape;
 use cyc_machine::CycleReport;
@@ -60,9 +60,10 @@ impl Journal {
         Ok(())
     }
 
-    /// The record of a run on an image that ended so after so many cycles, all of which are written down.
+    /// The record of a run on an image that ended so after so many cycles, at most `LONGEST_RUN`, all of which are written down.
     pub fn close<'i>(self, image: &'i Image, shape: &Shape, cycles: u32, end: End) -> Recorded<'i>
-        requires { IsRecord (journals.closed image.now shape.now cycles end self) }
+        requires record { IsRecord (journals.closed image.now shape.now cycles end self) }
+        requires short { cycles ≤ LONGEST_RUN }
         ensures { result ≡ journals.closed image.now shape.now cycles end self }
     {
         let Journal {

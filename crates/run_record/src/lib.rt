@@ -8,5 +8,5 @@ mod recorded;
 mod verdict;
 
 pub use journal::Journal;
-pub use recorded::Recorded;
+pub use recorded::{LONGEST_RUN, Recorded};
 pub use verdict::{Verdict, verdict_law};

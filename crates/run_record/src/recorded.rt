@@ -6,8 +6,12 @@ use elf_load::Image;
 use std::marker::Model;
 use wb_cache::CacheEvent;
 
+/// The greatest number of cycles of a recorded run.
+pub const LONGEST_RUN: u32 = 1_000_000;
+
 /// The recorded run of an image: how many cycles and instructions it took, what it put, how it ended, and what happened on
-/// the way. No list of states is kept. Every record is that of the machine's run on its image, from reset to the end.
+/// the way. No list of states is kept. Every record is that of the machine's run on its image, from reset to the end, in at most
+/// `LONGEST_RUN` cycles.
 #[derive(Drop)]
 pub struct Recorded<'i> {
     pub(crate) image: &'i Image,
@@ -22,7 +26,9 @@ pub struct Recorded<'i> {
 }
 
 impl<'i> Model for Recorded<'i> {
+    ghost use Rattle.std.specs.Prelude.{◌≤◌};
     ghost use Rattle.run_record.specs.Run.{IsRecord, RecordedRun};
+    ghost use Rattle.run_record.specs.declared.recorded.TheConstants.{LONGEST_RUN};
 
     ghost Value = { RecordedRun };
 
@@ -48,18 +54,21 @@ impl<'i> Model for Recorded<'i> {
       events = x.events.items;
       issues = x.issues.items;
       clocks = x.clocks.items;
-    }) };
+    }) × (x.cycles ≤ LONGEST_RUN) };
 }
 
 impl<'i> Recorded<'i> {
-    ghost use Rattle.std.specs.Prelude.{◌≡◌, ◌<◌, slice_index};
+    ghost use Rattle.std.specs.Prelude.{◌≡◌, ◌<◌, ◌≤◌, slice_index};
     ghost use Rattle.run_record.specs.Run.{IsRecord};
     ghost use Rattle.run_record.specs.Times.{IsTimed};
 
-    /// Changes nothing; says that every record is that of its image's run, and what of it lies below a cycle.
+    /// Changes nothing; says that every record is that of its image's run, what of it lies below a cycle, how many cycles it has at
+    /// most, and that a cycle retires at most one instruction.
     pub fn is_record(&self)
         ensures record { IsRecord self.now }
         ensures timed { IsTimed self.now }
+        ensures short { self.now.cycles ≤ LONGEST_RUN }
+        ensures few { self.now.instructions ≤ self.now.cycles }
     {
         let _cycles = self.cycles;
     }

@@ -8,8 +8,8 @@ pub loop-cycle-init : goal.loop-cycle-init
 loop-cycle-init g c =
     (starts c.args.image.now c.args.shape.now c.in_ok-machine.machine c.new-journal.result c.in_ok-machine.ensures c.new-journal.ensures, omega arith)
 
-pub close-requires : goal.close-requires
-close-requires g c =
+pub close-requires-clause-record : goal.close-requires-clause-record
+close-requires-clause-record g c =
     ends c.args.image.now c.args.shape.now c.loop-cycle.cycle c.loop-cycle.machine c.loop-cycle.journal c.run_cycle.new.journal c.loop-cycle.invariant.0
     c.in_ok-end.ensures.written
     c.requires.shape c.in-Some.end (c.loop-cycle.cycle + 1) (sym c.in_ok-end.ensures.end ∙ c.in-Some.is) (add-one c.loop-cycle.cycle)
