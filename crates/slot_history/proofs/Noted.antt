@@ -1,5 +1,6 @@
 -- How the lists grow with the events.
-use Rattle.std.proofs.Common.{◌≡◌, ℕ, ◌+◌, ◌<◌, ◌≤◌, Bool, true, false, cond, ltb, List, [], ◌∷◌, ◌++◌, length, get_or, take, refl, sym, ◌∙◌, ap, arith, inl, inr, subst}
+use Rattle.std.proofs.Common.{◌≡◌, ℕ, ◌+◌, ◌<◌, ◌≤◌, Bool, true, false, cond, ltb}
+use Rattle.std.proofs.Common.{List, [], ◌∷◌, ◌++◌, length, get_or, take, refl, sym, ◌∙◌, ap, arith, inl, inr, subst}
 use Rattle.std.specs.Prelude.{◌==◌, filter, replicate}
 use Rattle.std.specs.List.{All}
 use Rattle.std.proofs.lemmas.Bool.{cases_lt}
@@ -45,7 +46,8 @@ unfolding held_before
 before-more shape l t es n e below at =
     ap (λ (xs : List CacheEvent). held_behind shape l machine.Held.Vacant xs) (filter_more (λ (e : CacheEvent). ltb e.cycle t) es n e below)
     ∙ behind-append shape l machine.Held.Vacant (filter (λ (e : CacheEvent). ltb e.cycle t) (take n es)) _
-    ∙ rw (sym at) (one-behind shape l (held_behind shape l machine.Held.Vacant (filter (λ (e : CacheEvent). ltb e.cycle t) (take n es))) e (ltb e.cycle t))
+    ∙ rw (sym at)
+    (one-behind shape l (held_behind shape l machine.Held.Vacant (filter (λ (e : CacheEvent). ltb e.cycle t) (take n es))) e (ltb e.cycle t))
 
 -- ---- a list with one event more of its slot
 
@@ -153,11 +155,13 @@ module _ (shape : Shape) (events : List CacheEvent) (n : ℕ) (e : CacheEvent) (
   more : (b : Bool) → (slot_of shape e.set e.way == l) ≡ b → IsToldOf shape events (n + 1) l (noted_if b e old)
   more true is = record {
     rising =
-        kept-noted IsRising e.kind e.cycle e.line old so_far.rising (λ held. all_pairs_push (λ (a b : Change). a.cycle < b.cycle) old _ so_far.rising old-earlier);
+        kept-noted IsRising e.kind e.cycle e.line old so_far.rising
+        (λ held. all_pairs_push (λ (a b : Change). a.cycle < b.cycle) old _ so_far.rising old-earlier);
     earlier = λ k d m o. kept-noted (λ (xs : List Change). All (λ c. c.cycle < (get_or events k d).cycle) xs) e.kind e.cycle e.line old
         (so_far.earlier k d (omega arith) o)
         (λ held. All-push (λ (c : Change). c.cycle < (get_or events k d).cycle) old _ (so_far.earlier k d (omega arith) o) (later k d m o));
-    held = λ t. says-noted e.kind e.cycle e.line old t old-earlier ∙ rw (so_far.held t) (sym (before-more shape l t events n e below at ∙ rw is refl));
+    held = λ t. says-noted e.kind e.cycle e.line old t old-earlier
+        ∙ rw (so_far.held t) (sym (before-more shape l t events n e below at ∙ rw is refl));
   }
   more false is = record {
     rising = so_far.rising;

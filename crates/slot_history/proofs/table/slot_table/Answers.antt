@@ -10,7 +10,8 @@ loop-event-init c = rw (c.in_ok-changes.ensures, c.slot_count.ensures.value) (no
 pub loop-event-preserved : goal.loop-event-preserved
 loop-event-preserved c =
     let news = c.note.new.changes in
-    let same : length news ≡ c.loop-event.changes.len = omega (arith, c.note.auto.changes, ap length c.deref_mut.ensures.value, c.loop-event.changes.ok.0) in
+    let same : length news ≡ c.loop-event.changes.len = omega
+    (arith, c.note.auto.changes, ap length c.deref_mut.ensures.value, c.loop-event.changes.ok.0) in
     let noted : IsNoted c.args.shape.now c.args.events.now c.loop-event.event-index c.deref_mut.result.now = rw c.deref_mut.ensures.value
     c.loop-event.invariant in
     rw (take_at news (drop (length news) c.loop-event.changes.items) c.loop-event.changes.len same)
@@ -29,8 +30,10 @@ loop-event-preserved c =
 
 pub invariant_of-result : goal.invariant_of-result
 invariant_of-result c =
-    table-rises c.args.shape.now c.args.events.now c.loop-event.event-index c.loop-event.changes.items c.requires.shape (omega arith) c.loop-event.invariant
+    table-rises c.args.shape.now c.args.events.now c.loop-event.event-index c.loop-event.changes.items c.requires.shape (omega arith)
+    c.loop-event.invariant
 
 pub returns : goal.returns
 returns c =
-    table-tells c.args.shape.now c.args.events.now c.loop-event.event-index c.loop-event.changes.items c.requires.shape (omega arith) c.loop-event.invariant
+    table-tells c.args.shape.now c.args.events.now c.loop-event.event-index c.loop-event.changes.items c.requires.shape (omega arith)
+    c.loop-event.invariant
