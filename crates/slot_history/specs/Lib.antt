@@ -1,0 +1,3 @@
+pub mod HeldBefore
+pub mod Histories
+pub mod Notes
