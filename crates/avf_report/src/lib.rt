@@ -1,0 +1,9 @@
+// The counts of a run as text for people and as a table for programs.
+//
+// - text: the report;
+// - table: the same counts as comma-separated values.
+#![tactic(auto)]
+
+mod text;
+
+pub use text::report_text;
