@@ -1,9 +1,11 @@
 -- How many bits a structure has at most.
-use Rattle.std.proofs.Common.{◌≡◌, ℕ, ◌+◌, ◌-◌, ◌*◌, ◌^◌, ◌<◌, ◌≤◌, ◌⊎◌, inl, inr, List, [], ◌∷◌, sum_by, arith}
+use Rattle.std.proofs.Common.{◌≡◌, ℕ, ◌+◌, ◌-◌, ◌*◌, ◌^◌, ◌<◌, ◌≤◌, ◌==◌, ◌⊎◌, inl, inr, List, [], ◌∷◌, sum_by, arith}
+use Rattle.std.proofs.lemmas.Bool.{cases_Bool}
+use Rattle.std.proofs.Math.Nat.{div-le_of_le-mul}
 use Rattle.std.proofs.lemmas.List.Sums.{sum_by-cons, sum_by-le-sum_by}
 use Rattle.std.proofs.lemmas.Nat.{mul-le}
 use Rattle.ace_class.specs.Classes.{classes}
-use Rattle.ace_class.specs.Counts.{Counted, IsCounted, bits_of, count_of, pairs_of, structures, total_bits, total_of}
+use Rattle.ace_class.specs.Counts.{Counted, IsCounted, ace_of, bits_of, count_of, pairs_of, parts, ppm_of, structures, total_bits, total_of}
 use Rattle.ace_class.specs.declared.class.Class.{Class}
 use Rattle.ace_class.specs.declared.class.Class.TheVariants.{Ace, UnAce}
 use Rattle.ace_class.specs.declared.class.Rule.TheVariants.{Timing, EmptyPlace, WrongPath, OnPath, Masked, DeadRegister, DeadData}
@@ -73,6 +75,20 @@ in_all f (UnAce NoTrapCause) = omega arith
 
 pub count_most : (counted : Counted) → IsCounted counted → (s : Structure) (class : Class) → count_of counted s class ≤ pairs_of counted s
 count_most counted h s class = rw (← h.pairs s) (in_all (count_of counted s) class)
+
+pub pairs_most : (counted : Counted) → IsCounted counted → (s : Structure) → pairs_of counted s ≤ 65536 * 1000000
+pairs_most counted h s =
+    let m = mul-le (bits_of counted s) counted.cycles 65536 1000000 (bits_in_most s counted.shape h.shape) h.most in
+    omega (arith, m)
+
+parts_most : (part whole : ℕ) → part ≤ whole → parts part whole ≤ 1000000
+parts_most part whole h = elim (cases_Bool (whole == 0)) [
+  | inl zero ↦ rw zero (omega arith)
+  | inr some ↦ rw some (let m = mul-le part 1000000 whole 1000000 h (omega arith) in div-le_of_le-mul whole m)
+]
+
+pub ppm_most : (counted : Counted) → IsCounted counted → (s : Structure) → ppm_of counted s ≤ 1000000
+ppm_most counted h s = parts_most (ace_of counted s) (pairs_of counted s) (count_most counted h s Ace)
 
 -- ---- all structures together
 

@@ -4,6 +4,8 @@
 // - table: the same counts as comma-separated values.
 #![tactic(auto)]
 
+mod table;
 mod text;
 
+pub use table::report_csv;
 pub use text::report_text;
