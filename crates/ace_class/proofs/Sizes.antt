@@ -12,7 +12,8 @@ use Rattle.ace_class.specs.declared.class.Rule.TheVariants.{Timing, EmptyPlace, 
 use Rattle.ace_class.specs.declared.class.Rule.TheVariants.{StoreRedirection, CleanData, CleanLine, UnaccessedLine, CleanTag, NoTrapCause}
 use Rattle.bit_field.specs.Shapes.{IsShape, bits_in, slots, tag_bits}
 use Rattle.bit_field.specs.declared.places.Structure.{Structure}
-use Rattle.bit_field.specs.declared.places.Structure.TheVariants.{Pc, Npc, Bht, Btb, Ib, IdEx, ExMem, MemWb, Rf, Sb, Port, CData, CTag, CValid, CDirty, CLru}
+use Rattle.bit_field.specs.declared.places.Structure.TheVariants.{Pc, Npc, Bht, Btb, Ib, IdEx, ExMem, MemWb}
+use Rattle.bit_field.specs.declared.places.Structure.TheVariants.{Rf, Sb, Port, CData, CTag, CValid, CDirty, CLru}
 use Rattle.bit_field.specs.declared.shapes.Shape.{Shape}
 
 -- at most 512 lines of 16 bytes

@@ -2,7 +2,8 @@
 use Rattle.std.specs.Prelude.{◌≡◌, ℕ, ◌*◌, ◌/◌, ◌≤◌, ◌==◌, List, [], ◌∷◌, length, sum_by, slice_index, slice_index_or, if◌then◌else◌}
 use Rattle.bit_field.specs.Shapes.{IsShape, bits_in}
 use Rattle.bit_field.specs.declared.places.Structure.{Structure}
-use Rattle.bit_field.specs.declared.places.Structure.TheVariants.{Pc, Npc, Bht, Btb, Ib, IdEx, ExMem, MemWb, Rf, Sb, Port, CData, CTag, CValid, CDirty, CLru}
+use Rattle.bit_field.specs.declared.places.Structure.TheVariants.{Pc, Npc, Bht, Btb, Ib, IdEx, ExMem, MemWb}
+use Rattle.bit_field.specs.declared.places.Structure.TheVariants.{Rf, Sb, Port, CData, CTag, CValid, CDirty, CLru}
 use Rattle.bit_field.specs.declared.shapes.Shape.{Shape}
 use Rattle.ace_class.specs.Classes.{class_number, classes}
 use Rattle.ace_class.specs.declared.class.Class.{Class}

@@ -1,9 +1,10 @@
 // The counts of a run.
 
 ghost use Rattle.std.specs.Prelude.{◌≡◌, ◌≤◌, ◌<◌, ◌*◌, ◌^◌};
-ghost use Rattle.ace_class.specs.Counts.{parts, place_of};
+ghost use Rattle.ace_class.specs.Classes.{rules};
+ghost use Rattle.ace_class.specs.Counts.{parts, place_of, structures};
 
-use crate::class::{CLASSES, Class, Rule};
+use crate::class::{CLASSES, Class, RULES, Rule};
 use bit_field::{Shape, Structure, bits_in};
 use std::marker::Model;
 
@@ -32,6 +33,12 @@ pub const STRUCTURES: [Structure; 16] = [
     Structure::CDirty,
     Structure::CLru,
 ];
+
+/// Changes nothing; says that the structures and the rules stand in the order of a report.
+pub fn order_law()
+    ensures structures { STRUCTURES ≡ structures }
+    ensures rules { RULES ≡ rules }
+{}
 
 /// For each structure, how many pairs of one of its bits and a cycle of the run have each class (the counts behind an
 /// architectural vulnerability factor; Mukherjee et al., MICRO 2003). Each pair has one class, so the counts of a structure

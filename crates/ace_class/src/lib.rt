@@ -8,4 +8,4 @@ mod class;
 mod counts;
 
 pub use class::{CLASSES, Class, RULES, Rule};
-pub use counts::{Counts, MILLION, MOST_CYCLES, STRUCTURES};
+pub use counts::{Counts, MILLION, MOST_CYCLES, STRUCTURES, order_law};

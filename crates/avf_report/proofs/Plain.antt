@@ -9,7 +9,8 @@ use Rattle.std.proofs.lemmas.List.{append-nil}
 use Rattle.csv.specs.Writing.{default_writer, field_text, fields_text, is_blank, needs_byte, row_text}
 use Rattle.bit_field.specs.Names.{name_of}
 use Rattle.bit_field.specs.declared.places.Structure.{Structure}
-use Rattle.bit_field.specs.declared.places.Structure.TheVariants.{Pc, Npc, Bht, Btb, Ib, IdEx, ExMem, MemWb, Rf, Sb, Port, CData, CTag, CValid, CDirty, CLru}
+use Rattle.bit_field.specs.declared.places.Structure.TheVariants.{Pc, Npc, Bht, Btb, Ib, IdEx, ExMem, MemWb}
+use Rattle.bit_field.specs.declared.places.Structure.TheVariants.{Rf, Sb, Port, CData, CTag, CValid, CDirty, CLru}
 use Rattle.ace_class.proofs.Sizes.{bits_in_most, count_most, pairs_most, ppm_most}
 use Rattle.ace_class.specs.Classes.{number_of, rules}
 use Rattle.ace_class.specs.Counts.{Counted, IsCounted, ace_of, bits_of, count_of, ppm_of}
@@ -21,9 +22,11 @@ use Rattle.ace_class.specs.declared.class.Rule.TheVariants.{StoreRedirection, Cl
 use Rattle.avf_report.specs.Tables.{comma, header, row_of, rule_field, structure_row}
 use Rattle.avf_report.specs.Texts.{rule_name}
 
+-- no byte of the field calls for quotes
 abbrev pub IsPlain : List ℕ → Type 0
 IsPlain field = list_any (needs_byte default_writer) field ≡ false
 
+-- none of these fields does
 abbrev pub ArePlain : List (List ℕ) → Type 0
 ArePlain [] = Unit {0}
 ArePlain (field ∷ fields) = IsPlain field × ArePlain fields
@@ -60,13 +63,15 @@ plain_text : (field : List ℕ) → IsPlain field → field_text default_writer 
 plain_text field h = rw h refl
 
 -- the fields behind the first
-plain_fields : (first : List ℕ) (fields : List (List ℕ)) → ArePlain fields → first ++ fields_text default_writer fields ≡ join_with_byte comma (first ∷ fields)
+plain_fields : (first : List ℕ) (fields : List (List ℕ)) → ArePlain fields
+    → first ++ fields_text default_writer fields ≡ join_with_byte comma (first ∷ fields)
 unfolding fields_text
 plain_fields first [] h = append-nil first
 plain_fields first (field ∷ fields) h = rw (plain_text field h.0, plain_fields field fields h.1) refl
 
 -- a row of two fields or more, none of which calls for quotes
-pub plain_row : (x y : List ℕ) (fields : List (List ℕ)) → ArePlain (x ∷ y ∷ fields) → row_text default_writer (x ∷ y ∷ fields) ≡ row_of (x ∷ y ∷ fields)
+pub plain_row : (x y : List ℕ) (fields : List (List ℕ)) → ArePlain (x ∷ y ∷ fields)
+    → row_text default_writer (x ∷ y ∷ fields) ≡ row_of (x ∷ y ∷ fields)
 unfolding is_blank
 plain_row x y fields h = rw (plain_text x h.0, plain_fields x (y ∷ fields) h.1) refl
 

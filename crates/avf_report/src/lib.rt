@@ -9,3 +9,6 @@ mod text;
 
 pub use table::report_csv;
 pub use text::report_text;
+
+#[cfg(test)]
+mod tests;

@@ -21,7 +21,7 @@ fn rule_name(alloc: Global, rule: Rule) -> Result<String, AllocError>
 }
 
 // Adds to the row of names those of these rules.
-fn push_names(row: &mut ByteRecord, alloc: Global, rules: &[Rule]) -> Result<(), AllocError>
+fn push_names(alloc: Global, row: &mut ByteRecord, rules: &[Rule]) -> Result<(), AllocError>
     requires { partial_of row.old ≡ [] }
     ensures fields { OnOk result (fields_of row.new ≡ fields_of row.old ++ map rule_name rules.now) }
     ensures partial { OnOk result (partial_of row.new ≡ []) }
@@ -44,11 +44,11 @@ fn header_row(alloc: Global) -> Result<ByteRecord, AllocError>
         "ppm".as_bytes(),
     ];
     let mut row = ByteRecord::from_fields(alloc, &names)?;
-    push_names(&mut row, alloc, &RULES)?;
+    push_names(alloc, &mut row, &RULES)?;
     Ok(row)
 }
 
-fn push_number(row: &mut ByteRecord, alloc: Global, number: u64) -> Result<(), AllocError>
+fn push_number(alloc: Global, row: &mut ByteRecord, number: u64) -> Result<(), AllocError>
     requires { partial_of row.old ≡ [] }
     ensures fields { OnOk result (fields_of row.new ≡ fields_of row.old ++ decimal number ∷ []) }
     ensures partial { OnOk result (partial_of row.new ≡ []) }
@@ -57,21 +57,21 @@ fn push_number(row: &mut ByteRecord, alloc: Global, number: u64) -> Result<(), A
     row.push_field(digits.as_bytes())
 }
 
-fn push_numbers(row: &mut ByteRecord, alloc: Global, numbers: &[u64]) -> Result<(), AllocError>
+fn push_numbers(alloc: Global, row: &mut ByteRecord, numbers: &[u64]) -> Result<(), AllocError>
     requires { partial_of row.old ≡ [] }
     ensures fields { OnOk result (fields_of row.new ≡ fields_of row.old ++ map decimal numbers.now) }
     ensures partial { OnOk result (partial_of row.new ≡ []) }
 {
     for number in numbers {
-        push_number(row, alloc, *number)?;
+        push_number(alloc, row, *number)?;
     }
     Ok(())
 }
 
 #[tactic(auto, unfolding(crate::specs::Tables::rule_field))]
 fn push_rule(
-    row: &mut ByteRecord,
     alloc: Global,
+    row: &mut ByteRecord,
     counts: &Counts,
     s: Structure,
     rule: Rule,
@@ -80,13 +80,13 @@ fn push_rule(
     ensures fields { OnOk result (fields_of row.new ≡ fields_of row.old ++ tables.rule_field counts.now s rule ∷ []) }
     ensures partial { OnOk result (partial_of row.new ≡ []) }
 {
-    push_number(row, alloc, counts.rule(s, &rule))
+    push_number(alloc, row, counts.rule(s, &rule))
 }
 
 // Adds to a structure's row the pairs that are un-ACE by these rules.
 fn push_rules(
-    row: &mut ByteRecord,
     alloc: Global,
+    row: &mut ByteRecord,
     counts: &Counts,
     s: Structure,
     rules: &[Rule],
@@ -96,7 +96,7 @@ fn push_rules(
     ensures partial { OnOk result (partial_of row.new ≡ []) }
 {
     for rule in rules {
-        push_rule(row, alloc, counts, s, *rule)?;
+        push_rule(alloc, row, counts, s, *rule)?;
     }
     Ok(())
 }
@@ -110,8 +110,8 @@ fn structure_row(alloc: Global, counts: &Counts, s: Structure) -> Result<ByteRec
     let ppm = u64::from(counts.ppm(s));
     let mut row = ByteRecord::new(alloc);
     row.push_field(structure_name(s).as_bytes())?;
-    push_numbers(&mut row, alloc, &[bits, cycles, counts.ace(s), ppm])?;
-    push_rules(&mut row, alloc, counts, s, &RULES)?;
+    push_numbers(alloc, &mut row, &[bits, cycles, counts.ace(s), ppm])?;
+    push_rules(alloc, &mut row, counts, s, &RULES)?;
     Ok(row)
 }
 
@@ -130,8 +130,8 @@ fn write_row(writer: &mut Writer<Vec<u8>>, row: &ByteRecord) -> Result<(), OutOf
 
 #[tactic(auto, using(crate::proofs::Plain::structure_row_text))]
 fn write_structure(
-    writer: &mut Writer<Vec<u8>>,
     alloc: Global,
+    writer: &mut Writer<Vec<u8>>,
     counts: &Counts,
     s: Structure,
 ) -> Result<(), OutOfMemory>
@@ -145,23 +145,24 @@ fn write_structure(
 
 // A row for each of these structures.
 fn write_structures(
-    writer: &mut Writer<Vec<u8>>,
     alloc: Global,
+    writer: &mut Writer<Vec<u8>>,
     counts: &Counts,
     structures: &[Structure],
 ) -> Result<(), OutOfMemory>
     requires { IsReady writer.old }
     ensures ready { OnOk result (IsReady writer.new) }
-    ensures text { OnOk result (written writer.new ≡ written writer.old ++ flat_map (λ s. tables.row_of (tables.structure_row counts.now s)) structures.now) }
+    ensures text { OnOk result (written writer.new
+        ≡ written writer.old ++ flat_map (λ s. tables.row_of (tables.structure_row counts.now s)) structures.now) }
 {
     for s in structures {
-        write_structure(writer, alloc, counts, *s)?;
+        write_structure(alloc, writer, counts, *s)?;
     }
     Ok(())
 }
 
 #[tactic(auto, using(crate::proofs::Plain::header_text))]
-fn write_header(writer: &mut Writer<Vec<u8>>, alloc: Global) -> Result<(), OutOfMemory>
+fn write_header(alloc: Global, writer: &mut Writer<Vec<u8>>) -> Result<(), OutOfMemory>
     requires { IsReady writer.old }
     ensures ready { OnOk result (IsReady writer.new) }
     ensures text { OnOk result (written writer.new ≡ written writer.old ++ tables.row_of tables.header) }
@@ -193,7 +194,7 @@ pub fn report_csv(alloc: Global, counts: &Counts) -> Result<Vec<u8>, OutOfMemory
     ensures { IfOk result (λ table. table.items ≡ tables.report_csv_of counts.now) }
 {
     let mut writer = fresh_writer(alloc);
-    write_header(&mut writer, alloc)?;
-    write_structures(&mut writer, alloc, counts, &STRUCTURES)?;
+    write_header(alloc, &mut writer)?;
+    write_structures(alloc, &mut writer, counts, &STRUCTURES)?;
     taken(writer)
 }

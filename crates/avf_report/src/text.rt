@@ -1,8 +1,6 @@
 // The report of a run, as text.
-ghost use Rattle.std.specs.Prelude.{◌≡◌, [], ◌++◌, IfOk, OnOk, codes, decimal, string_bytes, ◌∷◌};
+ghost use Rattle.std.specs.Prelude.{◌≡◌, ◌++◌, ◌∷◌, [], IfOk, OnOk, codes, decimal, string_bytes};
 ghost use Rattle.std.specs.List.{flat_map};
-ghost use Rattle.ace_class.specs.Classes.{rules};
-ghost use Rattle.ace_class.specs.Counts.{structures};
 ghost use Rattle.avf_report.specs.Texts as texts;
 
 use ace_class::{Counts, RULES, Rule, STRUCTURES};
@@ -73,12 +71,13 @@ fn rule_line(alloc: Global, counts: &Counts, rule: Rule) -> Result<String, Alloc
 
 // A line for each of these structures.
 fn push_structures(
-    text: &mut String,
     alloc: Global,
+    text: &mut String,
     counts: &Counts,
     structures: &[Structure],
 ) -> Result<(), AllocError>
-    ensures { OnOk result (string_bytes text.new ≡ string_bytes text.old ++ flat_map (λ s. texts.line_of (texts.structure_line counts.now s)) structures.now) }
+    ensures { OnOk result (string_bytes text.new
+        ≡ string_bytes text.old ++ flat_map (λ s. texts.line_of (texts.structure_line counts.now s)) structures.now) }
 {
     for s in structures {
         text.push_str(&structure_line(alloc, counts, *s)?)?;
@@ -88,12 +87,13 @@ fn push_structures(
 
 // A line for each of these rules.
 fn push_rules(
-    text: &mut String,
     alloc: Global,
+    text: &mut String,
     counts: &Counts,
     rules: &[Rule],
 ) -> Result<(), AllocError>
-    ensures { OnOk result (string_bytes text.new ≡ string_bytes text.old ++ flat_map (λ rule. texts.line_of (texts.rule_line counts.now rule)) rules.now) }
+    ensures { OnOk result (string_bytes text.new
+        ≡ string_bytes text.old ++ flat_map (λ rule. texts.line_of (texts.rule_line counts.now rule)) rules.now) }
 {
     for rule in rules {
         text.push_str(&rule_line(alloc, counts, *rule)?)?;
@@ -102,17 +102,17 @@ fn push_rules(
 }
 
 #[tactic(auto, using(crate::proofs::Lines::structures_text))]
-fn push_all_structures(text: &mut String, alloc: Global, counts: &Counts) -> Result<(), AllocError>
+fn push_all_structures(alloc: Global, text: &mut String, counts: &Counts) -> Result<(), AllocError>
     ensures { OnOk result (string_bytes text.new ≡ string_bytes text.old ++ texts.text_of (texts.structure_lines counts.now)) }
 {
-    push_structures(text, alloc, counts, &STRUCTURES)
+    push_structures(alloc, text, counts, &STRUCTURES)
 }
 
 #[tactic(auto, using(crate::proofs::Lines::rules_text))]
-fn push_all_rules(text: &mut String, alloc: Global, counts: &Counts) -> Result<(), AllocError>
+fn push_all_rules(alloc: Global, text: &mut String, counts: &Counts) -> Result<(), AllocError>
     ensures { OnOk result (string_bytes text.new ≡ string_bytes text.old ++ texts.text_of (texts.rule_lines counts.now)) }
 {
-    push_rules(text, alloc, counts, &RULES)
+    push_rules(alloc, text, counts, &RULES)
 }
 
 /// The report of a run as text: its cycles, instructions and end; of each structure the bits, the pairs of a bit and a cycle
@@ -128,8 +128,8 @@ pub fn report_text(
 {
     let mut text = run_lines(alloc, recorded)?;
     text.push_str("structure bits ace ppm\n")?;
-    push_all_structures(&mut text, alloc, counts)?;
+    push_all_structures(alloc, &mut text, counts)?;
     text.push_str(&total_line(alloc, counts)?)?;
-    push_all_rules(&mut text, alloc, counts)?;
+    push_all_rules(alloc, &mut text, counts)?;
     Ok(text)
 }
