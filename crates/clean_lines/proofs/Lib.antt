@@ -7,7 +7,7 @@ mod BytesRead
 mod DataCycles
 mod DataMoves
 mod DataRuns
-mod Law
+pub mod Law
 mod Lists
 mod Moves
 mod OtherBytes
