@@ -1,0 +1,7 @@
+mod Paths
+mod Clocks
+mod OnPath
+mod Judged
+mod Noted
+mod Walked
+mod Told

@@ -1,0 +1,20 @@
+-- What is kept of a run for the classes of its bits.
+use Rattle.std.specs.Prelude.{ℕ, List}
+use Rattle.need_pass.specs.Tables.{Needs}
+use Rattle.line_life.specs.Lives.{IsLifeOf, Lives}
+use Rattle.tag_dist.specs.Tables.{IsTableOf, Tables}
+use Rattle.slot_history.specs.HeldBefore.{IsSlotTable}
+use Rattle.slot_history.specs.Histories.{Histories}
+use Rattle.ace_law.specs.Moments.{IsTold}
+use Rattle.ace_rules.specs.Notes.{AreNotes, Story}
+use Rattle.ace_rules.specs.declared.note.Note.{Note}
+
+-- the table of needs is that of the run, the notes are those of its cycles and instructions, and the tables of lifetimes, of look-ups and
+-- of line slots are those of its events
+pub record IsAnalysis (story : Story) (table : Needs) (notes : List Note) (words : List ℕ) (quiet : ℕ) (life : Lives) (tags : Tables)
+    (slots : Histories) : Type 0 where
+  pub told : IsTold story.r story.run table
+  pub noted : AreNotes story table notes words quiet
+  pub lives : IsLifeOf story.r.events story.r.shape story.r.cycles life
+  pub lines : IsTableOf story.r.events story.run.entries story.r.shape tags
+  pub held : IsSlotTable story.r.events story.r.shape slots

@@ -1,0 +1,192 @@
+// The walk of a machine beside a record: of each cycle a note, of each instruction the mask of its word, and the first quiet cycle.
+ghost use Rattle.std.specs.Prelude.{◌≡◌, ◌↔◌, ◌+◌, ◌*◌, ◌-◌, ◌/◌, ◌<◌, ◌≤◌, ◌^◌, true, IfOk, is_some};
+ghost use Rattle.std.specs.Prelude.{length, nat_lt, slice_get, option_map, if◌then◌else◌};
+ghost use Rattle.rv_table.specs.Effects.{written_register};
+ghost use Rattle.pipe_latch.specs.LatchedActions.{action_of, kind_of};
+ghost use Rattle.pipe_latch.specs.declared.kinds.ExMemKind.TheVariants.{Trap};
+ghost use Rattle.eval_mask.specs.LatchMasks.{IsLatchMask};
+ghost use Rattle.rv_table.specs.Actions as rv;
+ghost use Rattle.ace_law.specs.Moments.{IsTold};
+ghost use Rattle.ace_rules.specs.Notes.{AreNotes};
+ghost use Rattle.ace_rules.specs.Walks as walks;
+ghost use Rattle.ace_rules.specs.Walks.{IsInOrder, IsLastClock, IsNoteOf, latches_of, story_of};
+
+use crate::note::Note;
+use crate::path::{count_on_path, path_address};
+use crate::words::leave_if;
+use avf_base::{OutOfMemory, Steps};
+use cyc_machine::{CycleReport, Machine};
+use eval_mask::{LatchMask, latch_bits};
+use need_pass::NeedTable;
+use pipe_latch::{ExMem, ExMemKind};
+use run_record::Recorded;
+use rv_isa::{Arch, Trace};
+use rv_table::{Action, Op, is_clocked};
+use std::alloc::Global;
+use std::sync::ledger::Ledger;
+
+/// What is kept of a run: a note of each cycle, of each instruction the mask of its word, and the first quiet cycle.
+#[derive(Drop)]
+pub struct Notes {
+    pub cycles: Vec<Note>,
+    pub words: Vec<u32>,
+    pub quiet: u32,
+}
+
+/// Whether EX/MEM holds a trap, if it is occupied.
+fn is_trap(m: &ExMem) -> bool
+    ensures { (result ≡ true) ↔ (kind_of m.now.kind ≡ Trap) }
+{
+    matches!(ExMemKind::of_number(m.kind), ExMemKind::Trap)
+}
+
+/// The register that EX/MEM writes, 0 for none.
+fn executed_register(m: &ExMem) -> u8
+    ensures { result ≡ written_register (action_of m.now) }
+{
+    match m.action() {
+        Action::Writes { rd, .. } => rd,
+        Action::Loads { rd, .. } => rd,
+        _ => 0,
+    }
+}
+
+#[tactic(auto, unfolding(cyc_machine::specs::Pipeline::register))]
+/// What the register file holds in the register that MEM/WB writes, 0 for register 0.
+fn old_result(machine: &Machine<'_>) -> u32
+    ensures { result ≡ walks.old_result machine.now }
+{
+    match machine.mem_wb().rd {
+        0 => 0,
+        rd => machine.reg(rd),
+    }
+}
+
+/// The masks of the latches, where the instructions before instruction `x` have left EX.
+fn latch_masks(machine: &Machine<'_>, arch: &Arch<'_>, needs: &NeedTable, x: u32) -> LatchMask
+    requires { x ≤ needs.now.count }
+    ensures { IsLatchMask needs.now arch.now (latches_of machine.now) (walks.old_result machine.now) machine.now.npc x result }
+{
+    latch_bits(
+        machine.mem_wb(),
+        old_result(machine),
+        machine.ex_mem(),
+        machine.id_ex(),
+        machine.npc(),
+        arch,
+        needs,
+        x,
+    )
+}
+
+/// The word address of instruction `i`, none after the last.
+fn address_of(trace: &Trace, i: u32) -> Option<u32>
+    ensures { result ≡ option_map (λ entry. entry.pc / 4) (slice_get trace.now.entries i) }
+{
+    if i < trace.len() {
+        Some(trace.entry(i).pc / 4)
+    } else {
+        None
+    }
+}
+
+/// The note of a machine, of which `x` instructions have left EX; `arch` is the instruction set's state once MEM/WB is completed.
+fn note_of(machine: &Machine<'_>, arch: &Arch<'_>, trace: &Trace, needs: &NeedTable, x: u32) -> Note
+    requires order { IsInOrder machine.now.buffer }
+    requires room { x + 8 < 2 ^ 32 }
+    requires within { x ≤ needs.now.count }
+    ensures { IsNoteOf machine.now arch.now trace.now.entries needs.now x result }
+{
+    let d = machine.id_ex();
+    let buffer = machine.inst_buf();
+    let on_path = count_on_path(d, buffer, trace, x);
+    Note {
+        executed: x,
+        occupied: machine.ex_mem().valid,
+        traps: is_trap(machine.ex_mem()),
+        executed_rd: executed_register(machine.ex_mem()),
+        result_rd: machine.mem_wb().rd,
+        decoded_rd: d.rd,
+        decoded: d.valid,
+        decoded_on_path: d.valid && 0 < on_path,
+        decoded_next: d.pc == machine.npc(),
+        waiting: buffer.len() as u8,
+        on_path: on_path as u8,
+        next: address_of(trace, x + on_path),
+        missed: path_address(d, buffer, on_path),
+        stores: *machine.store_buf(),
+        masks: latch_masks(machine, arch, needs, x),
+    }
+}
+
+/// The number after the last read of the cycle counter, where an instruction comes after `last`.
+fn clock_after(last: u32, i: u32, op: &Op) -> u32
+    requires { i < 2 ^ 32 - 1 }
+    ensures { result ≡ (if rv.is_clocked op.now then i + 1 else last) }
+{
+    if is_clocked(op) { i + 1 } else { last }
+}
+
+/// The number after the last read of the cycle counter in a run, 0 where it has none.
+fn last_clock(trace: &Trace) -> u32
+    ensures { IsLastClock trace.now.entries (length trace.now.entries) result }
+{
+    let mut last = 0;
+    for i in 0..trace.len() {
+        last = clock_after(last, i, &trace.entry(i).op);
+    }
+    last
+}
+
+/// The first quiet cycle so far: in cycle `t`, before which `x` instructions have left EX, a read of the cycle counter is yet to
+/// come where `x` is below the number after the last.
+fn quiet_after(quiet: u32, t: u32, x: u32, last: u32) -> u32
+    requires { t < 2 ^ 32 - 1 }
+    ensures { result ≡ (if nat_lt x last then t + 1 else quiet) }
+{
+    if x < last { t + 1 } else { quiet }
+}
+
+/// How many instructions have left EX after a cycle that reports this.
+fn count_after(x: u32, report: &CycleReport) -> u32
+    requires { x < 2 ^ 32 - 1 }
+    ensures { result ≡ (if is_some report.now.issued then x + 1 else x) }
+{
+    if report.issued.is_some() { x + 1 } else { x }
+}
+
+/// The notes of a recorded run: a machine goes from reset as the recorded one went, and beside it an instruction set's state goes on by
+/// the effects of the trace. It takes as many steps as the run has cycles, and at most 33 applications an instruction.
+pub fn note_run<L: Ledger, M: Ledger>(
+    alloc: Global,
+    recorded: &Recorded<'_>,
+    trace: &Trace,
+    needs: &NeedTable,
+    steps: &mut Steps<L>,
+    applies: &mut Steps<M>,
+) -> Result<Notes, OutOfMemory>
+    requires { IsTold recorded.now trace.now needs.now }
+    ensures notes { IfOk result (λ notes. AreNotes (story_of recorded.now trace.now) needs.now notes.cycles.items notes.words.items notes.quiet) }
+    ensures steps { steps.new ≤ steps.old + recorded.now.cycles }
+    ensures applies { applies.new ≤ applies.old + 33 * length trace.now.entries }
+{
+    let last = last_clock(trace);
+    let mut machine = Machine::shaped(alloc, recorded.image(), &recorded.shape())?;
+    let mut arch = Arch::new(alloc, recorded.image())?;
+    let mut cycles = Vec::new(alloc);
+    let mut words = Vec::new(alloc);
+    let mut quiet = 0;
+    let mut executed = 0;
+    for t in 0..recorded.cycles() {
+        cycles.push(note_of(&machine, &arch, trace, needs, executed))?;
+        quiet = quiet_after(quiet, t, executed, last);
+        let report = machine.step(steps);
+        executed = count_after(executed, &report);
+        leave_if(report.retired, &mut arch, trace, needs, &mut words, applies)?;
+    }
+    Ok(Notes {
+        cycles,
+        words,
+        quiet,
+    })
+}
