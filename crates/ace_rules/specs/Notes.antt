@@ -62,6 +62,11 @@ pub record IsWordMaskOf (a : Moment) (table : Needs) (i mask : ℕ) : Type 0 whe
   pub exact : (word : ℕ) → fetch a.r.image (trace a i).pc ≡ Some word → IsWordMask table i arch word mask
   pub all : fetch a.r.image (trace a i).pc ≡ None → mask ≡ 2 ^ 32 - 1
 
+-- of each instruction the mask of its word
+pub record AreWordMasks (a : Moment) (table : Needs) (words : List ℕ) : Type 0 where
+  pub instructions : length words ≡ length a.run.entries
+  pub each : (i mask : ℕ) → slice_get words i ≡ Some mask → IsWordMaskOf a table i mask
+
 -- a run as it is analysed
 pub record Story : Type 0 where
   pub r : RecordedRun

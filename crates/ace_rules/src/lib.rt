@@ -1,12 +1,27 @@
 // The class of each bit of the machine in each cycle of a recorded run.
 //
-// `note` is what is kept of a cycle; `walk` makes the notes by a machine that goes as the recorded one went, with `path` for what is on
-// path and `words` for the masks of instruction words; `analysis` is a recorded run with all that is kept of it.
+// - note: what is kept of a cycle;
+// - walk: the notes of a run, by a machine that goes as the recorded one went; path: what is on path; words: masks of instruction words;
+// - analysis: a recorded run with all that is kept of it;
+// - first_rule: the class of a bit by the first of the rules that holds;
+// - timing, registers, next, latches: the classes of the pipeline's bits;
+// - later: what instructions that haven't left the memory stage need and access;
+// - pending: the classes of the bits of the store buffer;
+// - lines, line_data: the classes of the bits of line slots.
 #![tactic(auto)]
 
 mod analysis;
+mod first_rule;
+mod later;
+mod latches;
+mod line_data;
+mod lines;
+mod next;
 mod note;
 mod path;
+mod pending;
+mod registers;
+mod timing;
 mod walk;
 mod words;
 
