@@ -1,5 +1,6 @@
 -- The classes of the bits of ID/EX.
-use Rattle.std.proofs.Common.{◌≡◌, ◌≢◌, ◌⊎◌, inl, inr, ◌↔◌, ◌<◌, ◌≤◌, ◌-◌, ◌+◌, ◌==◌, ◌&&◌, ◌||◌, not, ℕ, suc, Bool, true, false, List, [], ◌∷◌, map, length, Decides, if◌then◌else◌, arith, refl, ap, sym, subst, ◌∙◌}
+use Rattle.std.proofs.Common.{◌≡◌, ◌≢◌, ◌⊎◌, inl, inr, ◌<◌, ◌≤◌, ◌-◌, ◌+◌, ◌==◌, ◌&&◌, not, ℕ, Bool, true, false, List, [], ◌∷◌, map, Decides}
+use Rattle.std.proofs.Common.{if◌then◌else◌, arith, refl, ap, sym, subst, ◌∙◌}
 use Rattle.std.specs.Int.{bit_at}
 use Rattle.std.specs.Prelude.{Option, Some, nat_lt, slice_get}
 use Rattle.std.proofs.lemmas.Bool.Decides.{nat_tests, Decides-and, Decides-at, Decides-eqb, Decides-like, Decides-not, Decides-or}
@@ -21,12 +22,14 @@ use Rattle.flush_view.specs.Flush.{item_of_entry, path}
 use Rattle.flush_view.specs.Positions.{on_path}
 use Rattle.flush_view.specs.Views.{view}
 use Rattle.ace_law.specs.Classes.{IsClass}
-use Rattle.ace_law.specs.Moments.{Moment, decoded_is_on_path, entries_on_path, executed, state, trace}
-use Rattle.ace_law.specs.PipelineRules.{ComesNext, IsCount, IsIdleDecoded, IsIn, IsMaskedBit, IsOnPathBit, IsPlaceOfDecoded, IsUnusedDecoded, IsWrongDecoded, IsWrongPathBit}
+use Rattle.ace_law.specs.Moments.{Moment, decoded_is_on_path, entries_on_path, state}
+use Rattle.ace_law.specs.PipelineRules.{ComesNext, IsCount, IsIdleDecoded, IsIn, IsMaskedBit, IsOnPathBit, IsPlaceOfDecoded, IsUnusedDecoded}
+use Rattle.ace_law.specs.PipelineRules.{IsWrongDecoded, IsWrongPathBit}
 use Rattle.ace_law.proofs.Masked.LatchMasks.{decoded-iff}
 use Rattle.ace_rules.specs.FirstRules.{AreTests, class_by, no_rule}
 use Rattle.ace_rules.specs.Notes.{IsKnown, IsMaskOf}
-use Rattle.ace_rules.specs.PipelineTests.{becomes_next, decoded_tests, is_count, is_masked_decoded, is_next, is_place_of_decoded, is_unused_decoded, is_wrong_decoded}
+use Rattle.ace_rules.specs.PipelineTests.{becomes_next, decoded_tests, is_count, is_masked_decoded, is_next, is_place_of_decoded, is_unused_decoded}
+use Rattle.ace_rules.specs.PipelineTests.{is_wrong_decoded}
 use Rattle.ace_rules.specs.declared.note.Note.{Note}
 use Rattle.ace_rules.proofs.FirstRuleLaws.{class-by, never}
 use Rattle.ace_rules.proofs.LatchClasses.{mask-decides}
@@ -83,15 +86,19 @@ module _ (a : Moment) (table : Needs) (note : Note) (quiet : Bool) (known : IsKn
           let least : 128 ≤ k = grind (arith, nat_tests) in
           subst (λ (i : ℕ). Decides (bit_at note.masks.idex_high (k - 128) == 1) (IsMaskedBit a IdEx i)) (omega (arith, least))
           (mask-decides note.masks.idex_high (k - 128) (masks.exact.idex_high.bits (k - 128) (omega (arith, least, l)))
-          (decoded-iff a table known.told known.below masks.arch (register (state a).registers (state a).w.rd) masks.image masks.stands refl (128 + (k - 128))))
+          (decoded-iff a table known.told known.below masks.arch (register (state a).registers (state a).w.rd) masks.image masks.stands refl
+          (128 + (k - 128))))
 
   -- ---- an ID/EX on a wrong path
 
   abbrev held : Item
   held = item_of_latch (state a).image (action_in_m (state a)) (state a).w (view (state a)) (state a).d
 
+  abbrev waiting : List Item
+  waiting = map item_of_entry (entries (state a).buffer)
+
   first-in : (state a).d.valid ≡ true → slice_get (path (state a)) 0 ≡ Some held
-  first-in v = ap (λ (b : Bool). slice_get (if b then held ∷ map item_of_entry (entries (state a).buffer) else map item_of_entry (entries (state a).buffer)) 0) v
+  first-in v = ap (λ (b : Bool). slice_get (if b then held ∷ waiting else waiting) 0) v
 
   module _ (k : ℕ) (place : IdExField × ℕ) (at : idex.field_of k ≡ Some place) where
     abbrev struck : Item

@@ -1,12 +1,13 @@
 -- The first of the tests that is true gives the class.
-use Rattle.std.proofs.Common.{◌≡◌, ◌<◌, ◌+◌, ◌==◌, ℕ, suc, Bool, true, false, Decides, if◌then◌else◌, ◌⊎◌, inl, inr, arith, refl, ap, sym, subst, ◌∙◌}
+use Rattle.std.proofs.Common.{◌≡◌, ◌<◌, ◌==◌, ℕ, suc, Bool, true, false, Decides, if◌then◌else◌, inl, inr, arith, refl, ap, sym, subst, ◌∙◌}
 use Rattle.std.proofs.lemmas.Bool.{cases_lt}
 use Rattle.bit_field.specs.declared.places.Place.{Place}
 use Rattle.ace_class.specs.Classes.{number_of}
 use Rattle.ace_class.specs.declared.class.Class.{Class}
 use Rattle.ace_class.specs.declared.class.Class.TheVariants.{Ace, UnAce}
 use Rattle.ace_class.specs.declared.class.Rule.{Rule}
-use Rattle.ace_class.specs.declared.class.Rule.TheVariants.{Timing, EmptyPlace, WrongPath, OnPath, Masked, DeadRegister, DeadData, StoreRedirection, CleanData, CleanLine, UnaccessedLine, CleanTag, NoTrapCause}
+use Rattle.ace_class.specs.declared.class.Rule.TheVariants.{Timing, EmptyPlace, WrongPath, OnPath, Masked, DeadRegister, DeadData, StoreRedirection}
+use Rattle.ace_class.specs.declared.class.Rule.TheVariants.{CleanData, CleanLine, UnaccessedLine, CleanTag, NoTrapCause}
 use Rattle.ace_law.specs.Classes.{Holds, IsClass}
 use Rattle.ace_law.specs.Moments.{Moment}
 use Rattle.ace_rules.specs.FirstRules.{AreTests, class_by}

@@ -1,5 +1,5 @@
 -- The classes of the bits of MEM/WB and EX/MEM.
-use Rattle.std.proofs.Common.{◌≡◌, ◌↔◌, ◌<◌, ◌==◌, ◌&&◌, not, ℕ, Bool, true, false, Decides, arith, refl}
+use Rattle.std.proofs.Common.{◌≡◌, ◌↔◌, ◌<◌, ◌==◌, not, ℕ, Bool, Decides, arith, refl}
 use Rattle.std.specs.Int.{bit_at}
 use Rattle.std.specs.Prelude.{Some}
 use Rattle.std.proofs.lemmas.Bool.Decides.{Decides-and, Decides-eqb, Decides-like, Decides-not}

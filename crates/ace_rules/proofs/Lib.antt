@@ -23,3 +23,8 @@ mod TimingClasses
 mod LatchClasses
 mod NextEntries
 mod DecodedClasses
+mod FrontSlots
+mod FetchedPlaces
+mod FetchedMasks
+mod FetchedClasses
+mod KnownMoments

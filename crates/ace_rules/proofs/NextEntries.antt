@@ -1,6 +1,7 @@
 -- What would come behind the entries on path.
-use Rattle.std.proofs.Common.{◌≡◌, ◌==◌, ◌&&◌, ◌+◌, ◌<◌, ◌≤◌, ℕ, zero, suc, Bool, true, false, List, [], ◌∷◌, ◌++◌, length, Decides, if◌then◌else◌, arith, refl, ap, sym, subst, ◌∙◌}
-use Rattle.std.specs.Prelude.{Option, Some, None, is_none, option_map, slice_get}
+use Rattle.std.proofs.Common.{◌≡◌, ◌==◌, ◌&&◌, ◌+◌, ◌≤◌, ℕ, suc, Bool, true, false, List, [], ◌∷◌, ◌++◌, length, Decides, if◌then◌else◌, arith, refl}
+use Rattle.std.proofs.Common.{ap, sym, subst, ◌∙◌}
+use Rattle.std.specs.Prelude.{Some, None, is_none, option_map, slice_get}
 use Rattle.std.proofs.lemmas.Bool.Decides.{Decides-like}
 use Rattle.bit_field.specs.Layouts.{flip}
 use Rattle.rv_isa.specs.Instruction.{State as Arch}
@@ -10,7 +11,7 @@ use Rattle.flush_view.specs.Flush.{path}
 use Rattle.flush_view.specs.Positions.{is_instruction, on_path}
 use Rattle.ace_law.specs.Moments.{Moment, entries_on_path, executed, state, trace}
 use Rattle.ace_law.specs.PipelineRules.{ComesNext}
-use Rattle.ace_rules.specs.Notes.{IsNote, address_at}
+use Rattle.ace_rules.specs.Notes.{IsNote}
 use Rattle.ace_rules.specs.PipelineTests.{becomes_next, is_address, is_next, is_next_flipped}
 use Rattle.ace_rules.specs.declared.note.Note.{Note}
 use Rattle.ace_rules.proofs.NotedTests.{true-decides}

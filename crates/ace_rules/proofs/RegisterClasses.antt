@@ -1,9 +1,9 @@
 -- The classes of the bits of the register file.
-use Rattle.std.proofs.Common.{◌≡◌, ◌<◌, ◌≤◌, ◌+◌, ◌/◌, ◌%◌, ◌==◌, ◌&&◌, ◌||◌, not, ◌⊎◌, inl, inr, ℕ, Bool, true, false, List, [], ◌∷◌, Decides, length, if◌then◌else◌, arith, refl, ap, sym, subst, ◌∙◌}
+use Rattle.std.proofs.Common.{◌≡◌, ◌<◌, ◌≤◌, ◌+◌, ◌/◌, ◌%◌, ◌==◌, ℕ, Bool, true, false, List, [], ◌∷◌, Decides, if◌then◌else◌, arith, refl, sym}
+use Rattle.std.proofs.Common.{subst}
 use Rattle.std.specs.Int.{bit_at}
-use Rattle.std.specs.Prelude.{None, drop, nat_lt}
-use Rattle.std.proofs.lemmas.Bool.Decides.{nat_tests, Decides-and, Decides-at, Decides-eqb, Decides-like, Decides-not, Decides-or}
-use Rattle.bit_field.specs.declared.places.Place.{Place}
+use Rattle.std.specs.Prelude.{None, drop}
+use Rattle.std.proofs.lemmas.Bool.Decides.{nat_tests, Decides-and, Decides-eqb, Decides-like, Decides-not, Decides-or}
 use Rattle.bit_field.specs.declared.places.Structure.TheVariants.{Rf}
 use Rattle.bit_field.specs.declared.shapes.TheConstants.{RF_BITS}
 use Rattle.rv_isa.specs.Instruction.{State as Arch}
@@ -16,13 +16,13 @@ use Rattle.need_pass.specs.Tables.{Needs, reg_need}
 use Rattle.flush_view.specs.Flush.{path}
 use Rattle.flush_view.specs.Positions.{is_instruction, on_path}
 use Rattle.flush_view.proofs.Run.OnPath.{reached-stop}
-use Rattle.ace_law.specs.Classes.{Holds, IsClass}
-use Rattle.ace_law.specs.MemoryRules.{IsDeadRegisterBit, IsOverwritten, IsUnneeded}
-use Rattle.ace_law.specs.Moments.{IsQuiet, Moment, decoded, decoded_is_on_path, executed, state, trace}
+use Rattle.ace_law.specs.Classes.{IsClass}
+use Rattle.ace_law.specs.MemoryRules.{IsOverwritten}
+use Rattle.ace_law.specs.Moments.{Moment, decoded, decoded_is_on_path, executed, state, trace}
 use Rattle.ace_law.proofs.Alike.{count_of}
 use Rattle.ace_law.proofs.Told.{executed-within, running-below}
 use Rattle.ace_rules.specs.FirstRules.{AreTests, class_by, no_rule}
-use Rattle.ace_rules.specs.Notes.{IsKnown, IsNote, IsSomeMoment}
+use Rattle.ace_rules.specs.Notes.{IsKnown, IsSomeMoment}
 use Rattle.ace_rules.specs.PipelineTests.{decoded_by, is_needed, is_overwritten, register_tests}
 use Rattle.ace_rules.specs.declared.note.Note.{Note}
 use Rattle.ace_rules.proofs.FirstRuleLaws.{class-by, never}

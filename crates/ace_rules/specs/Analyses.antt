@@ -1,10 +1,11 @@
 -- What is kept of a run for the classes of its bits.
-use Rattle.std.specs.Prelude.{ℕ, List}
+use Rattle.std.specs.Prelude.{◌≡◌, ℕ, List}
 use Rattle.need_pass.specs.Tables.{Needs}
 use Rattle.line_life.specs.Lives.{IsLifeOf, Lives}
 use Rattle.tag_dist.specs.Tables.{IsTableOf, Tables}
 use Rattle.slot_history.specs.HeldBefore.{IsSlotTable}
 use Rattle.slot_history.specs.Histories.{Histories}
+use Rattle.run_record.specs.Run.{RecordedRun}
 use Rattle.ace_law.specs.Moments.{IsTold}
 use Rattle.ace_rules.specs.Notes.{AreNotes, Story}
 use Rattle.ace_rules.specs.declared.note.Note.{Note}
@@ -18,3 +19,10 @@ pub record IsAnalysis (story : Story) (table : Needs) (notes : List Note) (words
   pub lives : IsLifeOf story.r.events story.r.shape story.r.cycles life
   pub lines : IsTableOf story.r.events story.run.entries story.r.shape tags
   pub held : IsSlotTable story.r.events story.r.shape slots
+
+-- it is kept of some run whose record this is
+pub record IsSomeAnalysis (r : RecordedRun) (table : Needs) (notes : List Note) (words : List ℕ) (quiet : ℕ) (life : Lives) (tags : Tables)
+    (slots : Histories) : Type 0 where
+  pub story : Story
+  pub record_is : story.r ≡ r
+  pub kept : IsAnalysis story table notes words quiet life tags slots

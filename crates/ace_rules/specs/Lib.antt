@@ -2,6 +2,7 @@ pub mod Notes
 pub mod Walks
 pub mod FirstRules
 pub mod PipelineTests
+pub mod FetchedTests
 pub mod Asked
 pub mod Lines
 pub mod LineData

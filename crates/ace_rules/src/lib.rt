@@ -4,13 +4,16 @@
 // - walk: the notes of a run, by a machine that goes as the recorded one went; path: what is on path; words: masks of instruction words;
 // - analysis: a recorded run with all that is kept of it;
 // - first_rule: the class of a bit by the first of the rules that holds;
-// - timing, registers, next, latches: the classes of the pipeline's bits;
+// - timing, registers, next, latches, fetched: the classes of the pipeline's bits;
+// - classes: the class of any bit;
 // - later: what instructions that haven't left the memory stage need and access;
 // - pending: the classes of the bits of the store buffer;
 // - lines, line_data: the classes of the bits of line slots.
 #![tactic(auto)]
 
 mod analysis;
+mod classes;
+mod fetched;
 mod first_rule;
 mod later;
 mod latches;

@@ -1,0 +1,75 @@
+// The class of any bit in any cycle.
+ghost use Rattle.std.specs.Prelude.{◌≡◌, ◌<◌, ◌≤◌, Some, length, slice_get};
+ghost use Rattle.bit_field.specs.Shapes.{IsPlaceIn};
+ghost use Rattle.ace_law.specs.Classes.{IsClass};
+ghost use Rattle.ace_rules.specs.Analyses.{IsAnalysis, IsSomeAnalysis};
+ghost use Rattle.ace_rules.specs.Notes.{Story, moment};
+
+use crate::analysis::Analysis;
+use crate::fetched::fetched_class;
+use crate::latches::{decoded_class, executed_class, result_class};
+use crate::line_data::data_class;
+use crate::lines::{dirty_class, tag_class, valid_class};
+use crate::note::Note;
+use crate::pending::pending_class;
+use crate::registers::register_class;
+use crate::timing::{next_class, timing_class};
+use ace_class::Class;
+use bit_field::{Place, Structure};
+use line_life::Life;
+use need_pass::NeedTable;
+use run_record::Recorded;
+use slot_history::SlotTable;
+use tag_dist::TagTable;
+
+/// The note of a cycle.
+fn note_at(notes: &[Note], cycle: u32) -> &Note
+    requires { cycle < length notes.now }
+    ensures { slice_get notes.now cycle ≡ Some result.now }
+{
+    &notes[cycle as usize]
+}
+
+/// The class of a bit of the machine in a cycle, by what is kept of the run.
+fn class_in(
+    recorded: &Recorded<'_>,
+    needs: &NeedTable,
+    notes: &[Note],
+    words: &[u32],
+    first_quiet: u32,
+    life: &Life,
+    tags: &TagTable,
+    slots: &SlotTable,
+    place: &Place,
+    cycle: u32,
+) -> Class
+    requires place { IsPlaceIn recorded.now.shape place.now }
+    requires cycle { cycle < recorded.now.cycles }
+    requires some { IsSomeAnalysis recorded.now needs.now notes.now words.now first_quiet life.now tags.now slots.now }
+    ensures { (story : Story) → story.r ≡ recorded.now → IsAnalysis story needs.now notes.now words.now first_quiet life.now tags.now slots.now → IsClass result (moment story cycle) place.now }
+{
+    let note = note_at(notes, cycle);
+    let quiet = first_quiet <= cycle;
+    let shape = recorded.shape();
+    let bit = place.bit;
+    match place.structure {
+        Structure::Pc => timing_class(quiet),
+        Structure::Npc => next_class(),
+        Structure::Bht => timing_class(quiet),
+        Structure::Btb => timing_class(quiet),
+        Structure::Ib => fetched_class(note, words, quiet, bit),
+        Structure::IdEx => decoded_class(note, quiet, bit),
+        Structure::ExMem => executed_class(note, quiet, bit),
+        Structure::MemWb => result_class(note, quiet, bit),
+        Structure::Rf => register_class(note, needs, quiet, bit),
+        Structure::Sb => pending_class(note, needs, recorded.image(), quiet, bit),
+        Structure::Port => timing_class(quiet),
+        Structure::CData => {
+            data_class(notes, first_quiet, needs, life, slots, &shape, cycle, bit)
+        }
+        Structure::CTag => tag_class(note, quiet, tags, slots, &shape, cycle, bit),
+        Structure::CValid => valid_class(note, quiet, tags, slots, &shape, cycle, bit),
+        Structure::CDirty => dirty_class(note, quiet, tags, slots, &shape, cycle, bit),
+        Structure::CLru => timing_class(quiet),
+    }
+}
