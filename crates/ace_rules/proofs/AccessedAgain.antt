@@ -1,16 +1,17 @@
 -- Whether a line is accessed again, by the note and the table of accesses.
-use Rattle.std.proofs.Common.{◌≡◌, ◌≢◌, ◌⊎◌, ◌+◌, ◌/◌, ◌≤◌, ◌<◌, ◌==◌, ◌&&◌, ◌||◌, zero, suc, ℕ, Bool, true, false, Decides, List, [], ◌∷◌, Option, Some, None, filter, length, nat_le, slice_get, arith, refl, sym, subst, ap, ◌∙◌, inl, inr, if◌then◌else◌}
+use Rattle.std.proofs.Common.{◌≡◌, ◌/◌, ◌≤◌, ◌<◌, ◌||◌, zero, suc, ℕ, Bool, true, false, Decides, List, [], ◌∷◌, Option, Some, None, length}
+use Rattle.std.proofs.Common.{slice_get, arith, refl, sym, subst, ap, ◌∙◌, inl, inr, if◌then◌else◌}
 use Rattle.std.specs.Option.{option_map_or}
-use Rattle.std.proofs.lemmas.Bool.{and_from, and_parts, cases_eq, cases_lt}
-use Rattle.std.proofs.lemmas.Bool.Decides.{nat_tests, Decides-at, Decides-eqb, Decides-like, Decides-or}
+use Rattle.std.proofs.lemmas.Bool.{and_from, and_parts, cases_eq}
+use Rattle.std.proofs.lemmas.Bool.Decides.{nat_tests, Decides-eqb, Decides-or}
 use Rattle.rv_isa.specs.declared.effect.Retired.{Retired}
 use Rattle.need_pass.specs.Tables.{Needs}
-use Rattle.store_buf.specs.Entry.{Entry, no_entry}
+use Rattle.store_buf.specs.Entry.{Entry}
 use Rattle.store_buf.specs.Pending.{is_pending, pending, slot_of}
 use Rattle.tag_dist.specs.Lines.{accesses, last_access, last_below}
 use Rattle.tag_dist.specs.Tables.{Tables, last_in}
 use Rattle.ace_law.specs.MemoryRules.{IsAccessedAgain, IsAccessedLater, IsPendingLine}
-use Rattle.ace_law.specs.Moments.{IsTold, Moment, retired, state}
+use Rattle.ace_law.specs.Moments.{Moment, retired}
 use Rattle.ace_law.proofs.Told.{state-steady}
 use Rattle.ace_rules.specs.Asked.{goes_to, is_accessed_again, is_later, is_pending_line, retired_by}
 use Rattle.ace_rules.specs.Notes.{IsKnown}
@@ -46,7 +47,8 @@ later-from (suc n) first test (i, l, u, p) = go (test n) refl (λ u. later-from 
           | inr ne ↦ below (omega (arith, u, ne))
         ]
 
-accesses-to : (line : ℕ) (o : Option Retired) → option_map_or (accesses line) o false ≡ true → (entry : Retired) × (o ≡ Some entry) × (accesses line entry ≡ true)
+accesses-to : (line : ℕ) (o : Option Retired) → option_map_or (accesses line) o false ≡ true
+    → (entry : Retired) × (o ≡ Some entry) × (accesses line entry ≡ true)
 accesses-to line None h = absurd cc
 accesses-to line (Some entry) h = (entry, refl, h)
 
@@ -61,12 +63,14 @@ goes : (e : Entry) (line : ℕ) → Decides (goes_to e line) ((is_pending e ≡ 
 goes e line =
     (λ h. let (p, q) = and_parts _ _ h in (p, (Decides-eqb (e.addr / 4) line).0 q), λ h. and_from _ _ h.0 ((Decides-eqb (e.addr / 4) line).1 h.1))
 
-waits-to : (xs : List Entry) (i : ℕ) (e : Entry) → slice_get (pending xs) i ≡ Some e → (k : ℕ) × (k < length xs) × (slot_of xs k ≡ e) × (is_pending e ≡ true)
+waits-to : (xs : List Entry) (i : ℕ) (e : Entry) → slice_get (pending xs) i ≡ Some e
+    → (k : ℕ) × (k < length xs) × (slot_of xs k ≡ e) × (is_pending e ≡ true)
 waits-to [] i e h = absurd cc
 waits-to (x ∷ xs) i e h = go (is_pending x) refl (λ i h. waits-to xs i e h) i h
   where
     go : (b : Bool) → is_pending x ≡ b
-        → ((i : ℕ) → slice_get (pending xs) i ≡ Some e → (k : ℕ) × (k < length xs) × (slot_of xs k ≡ e) × (is_pending e ≡ true)) → (i : ℕ) → slice_get (if b then x ∷ pending xs else pending xs) i ≡ Some e
+        → ((i : ℕ) → slice_get (pending xs) i ≡ Some e → (k : ℕ) × (k < length xs) × (slot_of xs k ≡ e) × (is_pending e ≡ true)) → (i : ℕ)
+        → slice_get (if b then x ∷ pending xs else pending xs) i ≡ Some e
         → (k : ℕ) × (k < length (x ∷ xs)) × (slot_of (x ∷ xs) k ≡ e) × (is_pending e ≡ true)
     go true p rest zero h = let same : x ≡ e = cc in (zero, omega arith, same, subst (λ (e : Entry). is_pending e ≡ true) same p)
     go true p rest (suc i) h = let (k, l, s, q) = rest i h in (suc k, omega (arith, l), s, q)
@@ -137,13 +141,13 @@ module _ (a : Moment) (table : Needs) (note : Note) (quiet : Bool) (known : IsKn
       let left : retired_by note ≡ retired a = retired-is a table note known.noted in
       rw (answers line) (
         λ h.
-          let (i, l, u, p) = later-to (length a.run.entries) (retired_by note) tests h in
-          let (entry, get, acc) = accesses-to line (slice_get a.run.entries i) p in
-          (i, entry, omega (arith, left, l), get, acc),
+            let (i, l, u, p) = later-to (length a.run.entries) (retired_by note) tests h in
+            let (entry, get, acc) = accesses-to line (slice_get a.run.entries i) p in
+            (i, entry, omega (arith, left, l), get, acc),
         λ h.
-          let (i, entry, l, get, acc) = h in
-          later-from (length a.run.entries) (retired_by note) tests
-          (i, omega (arith, left, l), get-below a.run.entries i entry get, ap (λ o. option_map_or (accesses line) o false) get ∙ acc),
+            let (i, entry, l, get, acc) = h in
+            later-from (length a.run.entries) (retired_by note) tests
+            (i, omega (arith, left, l), get-below a.run.entries i entry get, ap (λ o. option_map_or (accesses line) o false) get ∙ acc),
       )
 
   slots-four : length note.stores ≡ 4
@@ -155,17 +159,17 @@ module _ (a : Moment) (table : Needs) (note : Note) (quiet : Bool) (known : IsKn
       subst (λ (stores : List Entry). Decides (is_pending_line note.stores line)
       ((i : ℕ) × (e : Entry) × (slice_get (pending stores) i ≡ Some e) × (e.addr / 4 ≡ line))) known.noted.stores (
         λ h.
-          let (k, l, p) = some_of_four (λ k. goes_to (slot_of note.stores k) line) h in
-          let g = (goes (slot_of note.stores k) line).0 p in
-          let n = slots-four in
-          let (i, get) = waits-from note.stores k (omega (arith, n, l)) g.0 in
-          (i, slot_of note.stores k, get, g.1),
+            let (k, l, p) = some_of_four (λ k. goes_to (slot_of note.stores k) line) h in
+            let g = (goes (slot_of note.stores k) line).0 p in
+            let n = slots-four in
+            let (i, get) = waits-from note.stores k (omega (arith, n, l)) g.0 in
+            (i, slot_of note.stores k, get, g.1),
         λ h.
-          let (i, e, get, to) = h in
-          let n = slots-four in
-          let (k, l, s, p) = waits-to note.stores i e get in
-          one_of_four (λ k. goes_to (slot_of note.stores k) line) k (omega (arith, n, l))
-          (subst (λ (e : Entry). goes_to e line ≡ true) (sym s) ((goes e line).1 (p, to))),
+            let (i, e, get, to) = h in
+            let n = slots-four in
+            let (k, l, s, p) = waits-to note.stores i e get in
+            one_of_four (λ k. goes_to (slot_of note.stores k) line) k (omega (arith, n, l))
+            (subst (λ (e : Entry). goes_to e line ≡ true) (sym s) ((goes e line).1 (p, to))),
       )
 
   pub accessed-again : Decides (is_accessed_again tags note line) (IsAccessedAgain a line)

@@ -1,11 +1,11 @@
 -- What the table of slots tells of the machine's cache in a cycle of the run.
-use Rattle.std.proofs.Common.{◌≡◌, ◌+◌, ◌*◌, ◌/◌, ◌≤◌, ◌<◌, ◌^◌, ℕ, Bool, List, length, arith, refl, sym, subst, ap, ◌∙◌}
+use Rattle.std.proofs.Common.{◌≡◌, ◌*◌, ◌/◌, ◌<◌, ◌^◌, ℕ, Bool, List, arith, sym, subst, ap, ◌∙◌}
 use Rattle.std.specs.Prelude.{slice_index}
 use Rattle.bit_field.specs.Shapes.{IsShape, slots as slot_count, tag_bits}
 use Rattle.bit_field.specs.declared.shapes.Shape.{Shape}
 use Rattle.need_pass.specs.Tables.{Needs}
 use Rattle.wb_cache.specs.Changes.{set_at}
-use Rattle.wb_cache.specs.Contents.{Contents, slot_at}
+use Rattle.wb_cache.specs.Contents.{slot_at}
 use Rattle.wb_cache.specs.Lookup.{line_of}
 use Rattle.wb_cache.specs.declared.event.CacheEvent.{CacheEvent}
 use Rattle.wb_cache.proofs.Sizes.{line_below, slot-split, tag_slot}
@@ -35,7 +35,8 @@ module _ (a : Moment) (table : Needs) (is : IsTold a.r a.run table) (below : a.t
   held-in slots tells l within =
       subst (λ (held : machine.Held). IsHeld (state a).cache l held) (sym (tells.held l a.t within)) (held-by l within)
 
-  pub held-at : (shape : Shape) (tags : Tables) (slots : Histories) (cycle : ℕ) → AreTablesOf a shape tags slots cycle → (l : ℕ) → l < slot_count shape
+  pub held-at : (shape : Shape) (tags : Tables) (slots : Histories) (cycle : ℕ) → AreTablesOf a shape tags slots cycle → (l : ℕ)
+      → l < slot_count shape
       → IsHeld (state a).cache l (told (held_in slots l cycle))
   held-at shape tags slots cycle tables l within =
       subst (λ (t : ℕ). IsHeld (state a).cache l (told (held_in slots l t))) tables.cycle

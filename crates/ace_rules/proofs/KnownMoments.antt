@@ -1,5 +1,5 @@
 -- What is kept of a run tells of each of its cycles what the classes of bits ask.
-use Rattle.std.proofs.Common.{◌≡◌, ◌<◌, ◌≤◌, ℕ, Bool, true, false, List, refl, sym, ap, ◌∙◌, subst, arith}
+use Rattle.std.proofs.Common.{◌≡◌, ◌<◌, ℕ, true, List, refl, sym, ap, ◌∙◌, subst, arith}
 use Rattle.std.specs.Prelude.{Some, nat_le, slice_get, ◌↔◌}
 use Rattle.std.proofs.lemmas.Bool.Decides.{nat_tests}
 use Rattle.bit_field.specs.declared.places.Place.{Place}
@@ -13,7 +13,7 @@ use Rattle.slot_history.specs.Histories.{Histories}
 use Rattle.run_record.specs.Run.{RecordedRun}
 use Rattle.ace_law.specs.Classes.{IsClass}
 use Rattle.ace_law.specs.Moments.{IsQuiet, Moment}
-use Rattle.ace_rules.specs.Analyses.{IsAnalysis, IsSomeAnalysis}
+use Rattle.ace_rules.specs.Analyses.{IsAnalysis}
 use Rattle.ace_rules.specs.LineData.{AreDataTables, AreSomeDataTables}
 use Rattle.ace_rules.specs.Lines.{AreTablesOf, IsSomeLineMoment}
 use Rattle.ace_rules.specs.Notes.{AreWordMasks, IsKnown, IsSomeMoment, Story, moment}

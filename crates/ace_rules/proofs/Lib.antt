@@ -28,3 +28,4 @@ mod FetchedPlaces
 mod FetchedMasks
 mod FetchedClasses
 mod KnownMoments
+mod ClassNumbers

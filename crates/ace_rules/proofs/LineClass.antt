@@ -1,33 +1,31 @@
 -- The classes of the valid and dirty bits of line slots.
-use Rattle.std.proofs.Common.{◌≡◌, ◌⊎◌, ◌+◌, ◌*◌, ◌/◌, ◌%◌, ◌≤◌, ◌<◌, ◌^◌, ◌==◌, ◌&&◌, ℕ, Bool, true, false, not, Decides, arith, refl, sym, subst, ap, ◌∙◌, inl, inr, if◌then◌else◌}
-use Rattle.std.proofs.lemmas.Bool.Decides.{nat_tests, Decides-and, Decides-like, Decides-not}
-use Rattle.bit_field.specs.Shapes.{IsShape, slots as slot_count, tag_bits}
+use Rattle.std.proofs.Common.{◌≡◌, ◌<◌, ◌&&◌, ℕ, Bool, true, false, not, Decides, arith, refl, subst, ap, ◌∙◌, inl, inr, if◌then◌else◌}
+use Rattle.std.proofs.lemmas.Bool.Decides.{Decides-and, Decides-like, Decides-not}
+use Rattle.bit_field.specs.Shapes.{slots as slot_count}
 use Rattle.bit_field.specs.declared.places.Place.{Place}
 use Rattle.bit_field.specs.declared.places.Structure.{Structure}
-use Rattle.bit_field.specs.declared.places.Structure.TheVariants.{CDirty, CTag, CValid}
+use Rattle.bit_field.specs.declared.places.Structure.TheVariants.{CDirty, CValid}
 use Rattle.bit_field.specs.declared.shapes.Shape.{Shape}
 use Rattle.need_pass.specs.Tables.{Needs}
 use Rattle.wb_cache.specs.Changes.{set_at}
-use Rattle.wb_cache.specs.Contents.{Contents, slot_at}
+use Rattle.wb_cache.specs.Contents.{slot_at}
 use Rattle.wb_cache.specs.Lookup.{line_of}
-use Rattle.event_log.specs.Lookups.{distance_one}
 use Rattle.cyc_machine.specs.EventsLaw.{IsHeld}
-use Rattle.clean_lines.specs.Struck.{IsCleanSlot, IsDirtySlot, near_line, tag_line, tag_slot}
 use Rattle.slot_history.specs.HeldBefore.{told}
 use Rattle.slot_history.specs.declared.changes.Held.{Held}
 use Rattle.slot_history.specs.declared.changes.Held.TheVariants.{Vacant, Clean, Dirty}
-use Rattle.tag_dist.specs.Tables.{Tables, looked_up_in}
+use Rattle.tag_dist.specs.Tables.{Tables}
 use Rattle.ace_class.specs.Classes.{number_of}
-use Rattle.ace_class.specs.declared.class.Class.{Class}
 use Rattle.ace_class.specs.declared.class.Class.TheVariants.{Ace, UnAce}
 use Rattle.ace_class.specs.declared.class.Rule.{Rule}
-use Rattle.ace_class.specs.declared.class.Rule.TheVariants.{Timing, EmptyPlace, WrongPath, OnPath, Masked, DeadRegister, DeadData, StoreRedirection, CleanData, CleanLine, UnaccessedLine, CleanTag, NoTrapCause}
+use Rattle.ace_class.specs.declared.class.Rule.TheVariants.{Timing, EmptyPlace, WrongPath, OnPath, Masked, DeadRegister, DeadData, StoreRedirection}
+use Rattle.ace_class.specs.declared.class.Rule.TheVariants.{CleanData, CleanLine, UnaccessedLine, CleanTag, NoTrapCause}
 use Rattle.ace_law.specs.Classes.{Holds, IsClass}
-use Rattle.ace_law.specs.MemoryRules.{IsAccessedAgain, IsCleanLineBit, IsUnaccessedBit, IsUnconfusedTagBit, IsUnseen, line_in}
+use Rattle.ace_law.specs.MemoryRules.{IsAccessedAgain, IsCleanLineBit, IsUnaccessedBit, line_in}
 use Rattle.ace_law.specs.Moments.{IsQuiet, Moment, state}
 use Rattle.ace_law.specs.PipelineRules.{IsEmptyPlaceBit}
 use Rattle.ace_law.proofs.Told.{state-shape}
-use Rattle.ace_rules.specs.Asked.{clean_line, clean_tag, dirty_class, dirty_tag, is_accessed_again, is_unlooked, tag_class, unaccessed, valid_class}
+use Rattle.ace_rules.specs.Asked.{clean_line, dirty_class, is_accessed_again, unaccessed, valid_class}
 use Rattle.ace_rules.specs.Lines.{AreTablesOf}
 use Rattle.ace_rules.specs.Notes.{IsKnown}
 use Rattle.ace_rules.specs.declared.note.Note.{Note}
@@ -35,7 +33,6 @@ use Rattle.slot_history.specs.Histories.{Histories, held_in}
 use Rattle.ace_rules.proofs.HeldLines.{held-at}
 use Rattle.ace_rules.proofs.AccessedAgain.{accessed-again}
 use Rattle.ace_rules.proofs.PendingClass.{number-below}
-use Rattle.ace_rules.proofs.PendingTests.{is-not}
 use Rattle.ace_rules.proofs.VacantSlots.{vacant-tag}
 
 -- ---- the rules that speak of these bits
@@ -109,10 +106,12 @@ all p = (λ e. p, λ q. refl)
 module _ (a : Moment) (table : Needs) (note : Note) (quiet : Bool) (known : IsKnown a table note quiet) (shape : Shape) (same : shape ≡ a.r.shape)
     (tags : Tables) (again : (line : ℕ) → Decides (is_accessed_again tags note line) (IsAccessedAgain a line)) where
   unaccessed-decides : (line : ℕ) → Decides (quiet && not (is_accessed_again tags note line)) (IsQuiet a × (IsAccessedAgain a line → ⊥))
-  unaccessed-decides line = Decides-and quiet (not (is_accessed_again tags note line)) known.silent (Decides-not (is_accessed_again tags note line) (again line))
+  unaccessed-decides line = Decides-and quiet (not (is_accessed_again tags note line)) known.silent (Decides-not
+      (is_accessed_again tags note line) (again line))
 
   -- the line of what a slot holds
-  held-line : (l line : ℕ) → line ≡ line_of (state a).cache.shape (set_at (state a).cache.shape l) (slot_at (state a).cache l).tag → line ≡ line_in a l
+  held-line : (l line : ℕ) → line ≡ line_of (state a).cache.shape (set_at (state a).cache.shape l) (slot_at (state a).cache l).tag
+      → line ≡ line_in a l
   held-line l line e =
       e ∙ ap (λ (sh : Shape). line_of sh (set_at sh l) (slot_at (state a).cache l).tag) (state-shape a table known.told)
 
@@ -121,7 +120,8 @@ module _ (a : Moment) (table : Needs) (note : Note) (quiet : Bool) (known : IsKn
       let tag = vacant-tag a table known.told l below h in
       rw (tag, same) (omega arith)
 
-  not-again : (l line : ℕ) → line ≡ line_in a l → Decides (quiet && not (is_accessed_again tags note line)) (IsQuiet a × (IsAccessedAgain a (line_in a l) → ⊥))
+  not-again : (l line : ℕ) → line ≡ line_in a l → Decides (quiet && not (is_accessed_again tags note line)) (IsQuiet a × (IsAccessedAgain a
+      (line_in a l) → ⊥))
   not-again l line e =
       subst (λ n. Decides (quiet && not (is_accessed_again tags note line)) (IsQuiet a × (IsAccessedAgain a n → ⊥))) e (unaccessed-decides line)
 
@@ -159,7 +159,8 @@ module _ (a : Moment) (table : Needs) (note : Note) (quiet : Bool) (known : IsKn
       (not-again l line (held-line l line e)))
 
 -- as the code asks it
-module _ (a : Moment) (table : Needs) (note : Note) (quiet : Bool) (known : IsKnown a table note quiet) (shape : Shape) (tags : Tables) (slots : Histories)
+module _ (a : Moment) (table : Needs) (note : Note) (quiet : Bool) (known : IsKnown a table note quiet) (shape : Shape) (tags : Tables)
+    (slots : Histories)
     (cycle : ℕ) (tables : AreTablesOf a shape tags slots cycle) (l : ℕ) (within : l < slot_count shape) where
   here : l < slot_count a.r.shape
   here = subst (λ (sh : Shape). l < slot_count sh) tables.shape within

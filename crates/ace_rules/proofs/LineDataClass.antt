@@ -1,5 +1,7 @@
 -- The classes of the data bits of line slots.
-use Rattle.std.proofs.Common.{◌≡◌, ◌⊎◌, ◌↔◌, ◌+◌, ◌*◌, ◌/◌, ◌%◌, ◌≤◌, ◌<◌, ◌^◌, ◌==◌, ◌&&◌, ◌||◌, zero, suc, ℕ, Bool, true, false, not, cond, Decides, List, [], ◌∷◌, Option, Some, None, is_some, length, nat_le, slice_get, arith, refl, sym, subst, ap, ◌∙◌, inl, inr, if◌then◌else◌}
+use Rattle.std.proofs.Common.{◌≡◌, ◌⊎◌, ◌+◌, ◌*◌, ◌/◌, ◌%◌, ◌≤◌, ◌<◌, ◌^◌, ◌==◌, ◌&&◌, zero, suc, ℕ, Bool, true, false, not, cond, Decides, List}
+use Rattle.std.proofs.Common.{[], ◌∷◌, Option, Some, None, is_some, length, nat_le, slice_get, arith, refl, sym, subst, ap, ◌∙◌, inl, inr}
+use Rattle.std.proofs.Common.{if◌then◌else◌}
 use Rattle.std.specs.Int.{bit_at}
 use Rattle.std.specs.Option.{option_or}
 use Rattle.std.proofs.lemmas.Bool.{cases_eq}
@@ -23,7 +25,6 @@ use Rattle.event_log.specs.declared.next.Next.{Next}
 use Rattle.event_log.specs.declared.next.Next.TheVariants.{Read, Overwritten, Beside, Evicted, Ends}
 use Rattle.line_life.specs.Lives.{Lives, next_in}
 use Rattle.cyc_machine.specs.EventsLaw.{IsHeld}
-use Rattle.clean_lines.specs.Struck.{IsCleanSlot, IsDirtySlot}
 use Rattle.slot_history.specs.HeldBefore.{told}
 use Rattle.slot_history.specs.Histories.{Histories, held_in}
 use Rattle.slot_history.specs.declared.changes.Held.{Held}
@@ -31,9 +32,10 @@ use Rattle.slot_history.specs.declared.changes.Held.TheVariants.{Vacant, Clean, 
 use Rattle.ace_class.specs.Classes.{number_of}
 use Rattle.ace_class.specs.declared.class.Class.TheVariants.{Ace, UnAce}
 use Rattle.ace_class.specs.declared.class.Rule.{Rule}
-use Rattle.ace_class.specs.declared.class.Rule.TheVariants.{Timing, EmptyPlace, WrongPath, OnPath, Masked, DeadRegister, DeadData, StoreRedirection, CleanData, CleanLine, UnaccessedLine, CleanTag, NoTrapCause}
+use Rattle.ace_class.specs.declared.class.Rule.TheVariants.{Timing, EmptyPlace, WrongPath, OnPath, Masked, DeadRegister, DeadData, StoreRedirection}
+use Rattle.ace_class.specs.declared.class.Rule.TheVariants.{CleanData, CleanLine, UnaccessedLine, CleanTag, NoTrapCause}
 use Rattle.ace_law.specs.Classes.{Holds, IsClass}
-use Rattle.ace_law.specs.MemoryRules.{IsDeadDataBit, IsPending, IsUnneeded, IsUnread, IsUnreadDataBit, byte_in, line_in}
+use Rattle.ace_law.specs.MemoryRules.{IsDeadDataBit, IsPending, IsUnneeded, IsUnread, IsUnreadDataBit, line_in}
 use Rattle.ace_law.specs.Moments.{IsQuiet, IsTold, Moment, moved, retired, state}
 use Rattle.ace_law.specs.PipelineRules.{IsEmptyPlaceBit}
 use Rattle.ace_law.proofs.Told.{state-shape}
@@ -143,7 +145,8 @@ module _ (a : Moment) (table : Needs) (note : Note) (is : IsTold a.r a.run table
       Decides-or (written_from note.stores 0 p) (not (bit_at (byte_need table p (retired_by note)) j == 1)) (pending-is p)
       (unneeded-decides a table note is noted p j l b)
 
-  held-line : (l line : ℕ) → line ≡ line_of (state a).cache.shape (set_at (state a).cache.shape l) (slot_at (state a).cache l).tag → line ≡ line_in a l
+  held-line : (l line : ℕ) → line ≡ line_of (state a).cache.shape (set_at (state a).cache.shape l) (slot_at (state a).cache l).tag
+      → line ≡ line_in a l
   held-line l line e = e ∙ ap (λ (sh : Shape). line_of sh (set_at sh l) (slot_at (state a).cache l).tag) (state-shape a table is)
 
   dead-line : (holds : Held) → IsHeld (state a).cache (k / 128) (told holds) → IsLineHeld holds
@@ -208,7 +211,7 @@ module _ (story : Story) (table : Needs) (notes : List Note) (quiet : ℕ) (cach
       elim (cases_eq (suc c) story.r.cycles) [
         | inl e ↦ (λ h. inl e, λ h. after-end (suc c) (omega (arith, e)))
         | inr ne ↦ Decides-like (is_dead_in table quiet lines l (k % 128 / 8) (k % 8) (suc c) (slice_get notes (suc c))) (λ g. inr g)
-          (λ g. elim g [ inl e ↦ absurd (ne e) | inr x ↦ x ]) (dead-in (suc c) (omega (arith, below, ne)))
+            (λ g. elim g [ inl e ↦ absurd (ne e) | inr x ↦ x ]) (dead-in (suc c) (omega (arith, below, ne)))
       ]
 
   unread-by : (t : ℕ) (next : Next) → IsNextBelow story.r.cycles next
@@ -218,7 +221,8 @@ module _ (story : Story) (table : Needs) (notes : List Note) (quiet : ℕ) (cach
   unread-by t (Overwritten c) b = all tt
   unread-by t (Beside c) b =
       let e : suc c ≡ c + 1 = omega arith in
-      subst (λ (n : ℕ). Decides (is_dead_in table quiet lines l (k % 128 / 8) (k % 8) n (slice_get notes n)) (IsUnread (moment story t) k (Beside c))) e
+      subst (λ (n : ℕ). Decides (is_dead_in table quiet lines l (k % 128 / 8) (k % 8) n (slice_get notes n)) (IsUnread (moment story t) k
+      (Beside c))) e
       (beside t c b)
   unread-by t (Evicted c) b = all tt
   unread-by t Ends b = all tt
@@ -242,7 +246,8 @@ module _ (story : Story) (table : Needs) (notes : List Note) (quiet : ℕ) (cach
       → IsClass (data_class holds dead free) (moment story t) (record { structure = CData; bit = k })
   unfolding data_class
   class-by t below Vacant h dead free is-d is-u =
-      data-judged (moment story t) k true false false (all h) (none (λ d. let v = d.1.0.valid in absurd cc)) (none (λ u. let v = u.0.valid in absurd cc))
+      data-judged (moment story t) k true false false (all h) (none (λ d. let v = d.1.0.valid in absurd cc)) (none
+      (λ u. let v = u.0.valid in absurd cc))
   class-by t below (Clean line) (v, d, e) dead free is-d is-u =
       data-judged (moment story t) k false false free (none (λ w. absurd cc)) (none (λ g. let x = g.1.0.dirty in absurd cc))
       (Decides-like free (λ u. (record { valid = v; clean = d }, u)) (λ u. u.1) is-u)

@@ -1,14 +1,14 @@
 -- A write beside a byte comes in a cycle of the run.
-use Rattle.std.proofs.Common.{◌≡◌, ◌+◌, ◌<◌, ◌&&◌, zero, suc, ℕ, Bool, true, false, All, List, [], ◌∷◌, Option, Some, None, find, nat_le, arith, refl, subst, sym, ap, ◌∙◌, if◌then◌else◌}
+use Rattle.std.proofs.Common.{◌≡◌, ◌<◌, ◌&&◌, suc, ℕ, Bool, true, false, All, List, [], ◌∷◌, Option, Some, None, find, nat_le, arith, refl, subst}
+use Rattle.std.proofs.Common.{sym, if◌then◌else◌}
 use Rattle.std.specs.Option.{option_map_or}
-use Rattle.bit_field.specs.declared.shapes.Shape.{Shape}
 use Rattle.wb_cache.specs.declared.event.CacheEvent.{CacheEvent}
 use Rattle.wb_cache.specs.declared.event.EventKind.{EventKind}
 use Rattle.wb_cache.specs.declared.event.EventKind.TheVariants.{Read, Write, Miss, Fill}
 use Rattle.event_log.specs.Events.{first_event, holds_byte}
 use Rattle.event_log.specs.Nexts.{concerns, next_of, told_by}
 use Rattle.event_log.specs.declared.next.Next.TheVariants.{Ends}
-use Rattle.cyc_machine.specs.Run.{events_below, state_after}
+use Rattle.cyc_machine.specs.Run.{state_after}
 use Rattle.cyc_machine.specs.State.{reset}
 use Rattle.cyc_machine.proofs.Events.{events-law}
 use Rattle.cyc_machine.proofs.RunsOn.{runs-law}

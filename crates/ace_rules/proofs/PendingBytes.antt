@@ -1,11 +1,10 @@
 -- Whether the stores from some slot on write a byte, slot by slot.
-use Rattle.std.proofs.Common.{◌≡◌, ◌+◌, ◌<◌, ◌≤◌, ◌/◌, ◌%◌, ℕ, zero, suc, Bool, true, false, ◌||◌, List, [], ◌∷◌, length, refl, sym, ap, ◌∙◌, arith, cond}
-use Rattle.std.specs.Prelude.{◌==◌, ◌&&◌, drop, is_some, Option, Some, None}
+use Rattle.std.proofs.Common.{◌≡◌, ◌<◌, ◌≤◌, ◌/◌, ◌%◌, ℕ, zero, suc, Bool, true, false, ◌||◌, List, [], ◌∷◌, length, refl, arith, cond}
+use Rattle.std.specs.Prelude.{is_some, Option, Some, None}
 use Rattle.std.specs.Option.{option_or}
-use Rattle.std.proofs.lemmas.Bool.Decides.{nat_tests}
-use Rattle.bit_field.specs.Lanes.{has_lane, lane_byte}
+use Rattle.bit_field.specs.Lanes.{lane_byte}
 use Rattle.store_buf.specs.Covers.{found, held}
-use Rattle.store_buf.specs.Entry.{Entry, no_entry}
+use Rattle.store_buf.specs.Entry.{Entry}
 use Rattle.store_buf.specs.Pending.{slot_of}
 use Rattle.ace_law.specs.MemoryRules.{writes}
 use Rattle.ace_rules.specs.Asked.{written_from}
@@ -20,7 +19,8 @@ held-writes o e p = go (writes e p) o
     go false (Some v) = refl
     go false None = refl
 
-pub written-more : (stores : List Entry) (i p : ℕ) → i < length stores → written_from stores i p ≡ (writes (slot_of stores i) p || written_from stores (suc i) p)
+pub written-more : (stores : List Entry) (i p : ℕ) → i < length stores
+    → written_from stores i p ≡ (writes (slot_of stores i) p || written_from stores (suc i) p)
 unfolding found
 written-more [] i p l = absurd (omega arith)
 written-more (e ∷ stores) zero p l = held-writes (found stores (p / 4) (p % 4)) e p

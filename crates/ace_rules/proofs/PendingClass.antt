@@ -1,6 +1,7 @@
 -- The class of a bit of the store buffer.
-use Rattle.std.proofs.Common.{◌≡◌, ◌+◌, ◌*◌, ◌/◌, ◌%◌, ◌≤◌, ◌<◌, ◌^◌, ◌==◌, ◌&&◌, ℕ, Bool, true, false, not, Decides, All, List, Option, Some, length, arith, refl, sym, subst, ap, ◌∙◌, inl, inr, if◌then◌else◌}
-use Rattle.std.proofs.lemmas.Bool.Decides.{nat_tests, Decides-eqb, Decides-like}
+use Rattle.std.proofs.Common.{◌≡◌, ◌+◌, ◌*◌, ◌/◌, ◌%◌, ◌<◌, ◌&&◌, ℕ, Bool, true, false, not, Decides, List, Option, Some, arith, refl, sym, subst}
+use Rattle.std.proofs.Common.{if◌then◌else◌}
+use Rattle.std.proofs.lemmas.Bool.Decides.{Decides-eqb}
 use Rattle.bit_field.specs.Lanes.{has_lane}
 use Rattle.bit_field.specs.declared.places.Place.{Place}
 use Rattle.bit_field.specs.declared.places.Structure.TheVariants.{Sb}
@@ -17,14 +18,15 @@ use Rattle.ace_class.specs.Classes.{number_of}
 use Rattle.ace_class.specs.declared.class.Class.{Class}
 use Rattle.ace_class.specs.declared.class.Class.TheVariants.{Ace, UnAce}
 use Rattle.ace_class.specs.declared.class.Rule.{Rule}
-use Rattle.ace_class.specs.declared.class.Rule.TheVariants.{Timing, EmptyPlace, WrongPath, OnPath, Masked, DeadRegister, DeadData, StoreRedirection, CleanData, CleanLine, UnaccessedLine, CleanTag, NoTrapCause}
+use Rattle.ace_class.specs.declared.class.Rule.TheVariants.{Timing, EmptyPlace, WrongPath, OnPath, Masked, DeadRegister, DeadData, StoreRedirection}
+use Rattle.ace_class.specs.declared.class.Rule.TheVariants.{CleanData, CleanLine, UnaccessedLine, CleanTag, NoTrapCause}
 use Rattle.ace_law.specs.Classes.{Holds, IsClass}
 use Rattle.ace_law.specs.MemoryRules.{IsDeadDataBit, IsDeadValue, IsHarmlessRedirection, IsRedirectionBit, IsTarget}
-use Rattle.ace_law.specs.Moments.{IsQuiet, IsTold, Moment, state}
+use Rattle.ace_law.specs.Moments.{IsQuiet, Moment}
 use Rattle.ace_law.specs.PipelineRules.{IsEmptyPlaceBit, IsIn, IsUnusedPending}
 use Rattle.ace_law.proofs.Told.{state-machine}
 use Rattle.ace_rules.specs.Asked.{is_dead_value, is_harmless, is_redirected, is_unused, pending_class}
-use Rattle.ace_rules.specs.Notes.{IsKnown, IsNote}
+use Rattle.ace_rules.specs.Notes.{IsKnown}
 use Rattle.ace_rules.specs.declared.note.Note.{Note}
 use Rattle.ace_rules.proofs.PendingTests.{dead, harmless, is-not}
 
@@ -74,13 +76,18 @@ module _ (a : Moment) (k : ℕ) where
       → Decides r (IsRedirectionBit a Sb k) → IsClass (chosen e q d r) a place
   judged true q d r is-e is-q is-d is-r =
       (is-e.0 refl, earlier 2 (λ l. absurd (omega (arith, l))) (λ l. absurd (omega (arith, l))) (λ l. absurd (omega (arith, l))))
-  judged false true true r is-e is-q is-d is-r =
-      ((is-q.0 refl, (is-d refl).0 refl), earlier 7 (λ l h. let t = is-e.1 h in absurd cc) (λ l. absurd (omega (arith, l))) (λ l. absurd (omega (arith, l))))
-  judged false true false true is-e is-q is-d is-r =
-      ((is-q.0 refl, is-r.0 refl),
-      earlier 8 (λ l h. let t = is-e.1 h in absurd cc) (λ l q h. let t = (is-d refl).1 h in absurd cc) (λ l. absurd (omega (arith, l))))
+  judged false true true r is-e is-q is-d is-r = (
+    (is-q.0 refl, (is-d refl).0 refl),
+    earlier 7 (λ l h. let t = is-e.1 h in absurd cc) (λ l. absurd (omega (arith, l))) (λ l. absurd (omega
+        (arith, l))),
+  )
+  judged false true false true is-e is-q is-d is-r = (
+    (is-q.0 refl, is-r.0 refl),
+    earlier 8 (λ l h. let t = is-e.1 h in absurd cc) (λ l q h. let t = (is-d refl).1 h in absurd cc) (λ l. absurd (omega (arith, l))),
+  )
   judged false true false false is-e is-q is-d is-r =
-      λ rule. earlier 14 (λ l h. let t = is-e.1 h in absurd cc) (λ l q h. let t = (is-d refl).1 h in absurd cc) (λ l q h. let t = is-r.1 h in absurd cc)
+      λ rule. earlier 14 (λ l h. let t = is-e.1 h in absurd cc) (λ l q h. let t = (is-d refl).1 h in absurd cc)
+      (λ l q h. let t = is-r.1 h in absurd cc)
       rule (number-below rule)
   judged false false d r is-e is-q is-d is-r =
       λ rule. earlier 14 (λ l h. let t = is-e.1 h in absurd cc) (λ l q. let t = is-q.1 q in absurd cc) (λ l q. let t = is-q.1 q in absurd cc)
@@ -97,7 +104,8 @@ unused-by e Mask j = never
 unused-by e Addr j = Decides-eqb e.mask 0
 unused-by e Value j = is-not (has_lane e.mask (j / 8))
 
-module _ (image : LoadedImage) (a : Moment) (table : Needs) (note : Note) (quiet : Bool) (known : IsKnown a table note quiet) (same : image ≡ a.r.image)
+module _ (image : LoadedImage) (a : Moment) (table : Needs) (note : Note) (quiet : Bool) (known : IsKnown a table note quiet)
+    (same : image ≡ a.r.image)
     (i : ℕ) (slot : i < 4) where
   abbrev store : Entry
   store = slot_of note.stores i
@@ -125,7 +133,8 @@ module _ (image : LoadedImage) (a : Moment) (table : Needs) (note : Note) (quiet
       let is = dead image a table note known.told known.noted same i (4 * store.addr + j / 8) (j % 8) (omega (arith, near, l)) (omega arith) in
       (λ e. (value-used j h, is.0 e), λ d. is.1 d.1)
 
-  harmless-by : (b : ℕ) → b < PENDING_BITS → Decides (is_harmless image table note i (sb.flipped store b)) (IsHarmlessRedirection a i store (sb.flipped store b))
+  harmless-by : (b : ℕ) → b < PENDING_BITS → Decides (is_harmless image table note i (sb.flipped store b)) (IsHarmlessRedirection a i store
+      (sb.flipped store b))
   harmless-by b l =
       harmless image a table note known.told known.noted same i (sb.flipped store b) fit.1.0 (laws.fit_stays store b fit l).1.0
 
@@ -144,19 +153,22 @@ module _ (image : LoadedImage) (a : Moment) (table : Needs) (note : Note) (quiet
       (field : sb.field_of b ≡ Some (f, j)) (within : b < PENDING_BITS) (narrow : j < 32) where
     empty : Decides (is_unused store f j) (IsEmptyPlaceBit a Sb k)
     empty =
-        rw (at_slot, at_bit) (subst (λ (stores : List Entry). Decides (is_unused store f j) (IsIn (IsUnusedPending (slot_of stores i)) (sb.field_of b)))
+        rw (at_slot, at_bit) (subst (λ (stores : List Entry). Decides (is_unused store f j) (IsIn (IsUnusedPending (slot_of stores i))
+        (sb.field_of b)))
         known.noted.stores (in-field (IsUnusedPending store) (sb.field_of b) f j (is_unused store f j) field (unused-by store f j)))
 
     dead_value : is_unused store f j ≡ false → Decides (is_dead_value table note i f j) (IsDeadDataBit a Sb k)
     dead_value used =
-        rw (at_slot, at_bit) (subst (λ (stores : List Entry). Decides (is_dead_value table note i f j) (IsIn (IsDeadValue a i (slot_of stores i)) (sb.field_of b)))
+        rw (at_slot, at_bit) (subst (λ (stores : List Entry). Decides (is_dead_value table note i f j) (IsIn (IsDeadValue a i (slot_of stores i))
+        (sb.field_of b)))
         known.noted.stores (in-field (IsDeadValue a i store) (sb.field_of b) f j (is_dead_value table note i f j) field (dead-by f j narrow used)))
 
     redirected : Decides (is_redirected image table note i f b) (IsRedirectionBit a Sb k)
     redirected =
         rw (at_slot, at_bit) (subst (λ (stores : List Entry). Decides (is_redirected image table note i f b)
         (IsIn IsTarget (sb.field_of b) × IsHarmlessRedirection a i (slot_of stores i) (sb.flipped (slot_of stores i) b))) known.noted.stores
-        (subst (λ o. Decides (is_redirected image table note i f b) (IsIn IsTarget o × IsHarmlessRedirection a i store (sb.flipped store b))) (sym field)
+        (subst (λ o. Decides (is_redirected image table note i f b) (IsIn IsTarget o × IsHarmlessRedirection a i store (sb.flipped store b)))
+        (sym field)
         (redirected-by f b j within)))
 
     pub pending-class : IsClass (pending_class image table note quiet i b f j) a (record { structure = Sb; bit = k })

@@ -1,7 +1,8 @@
 -- What is asked of a pending store is what the rules ask.
-use Rattle.std.proofs.Common.{◌≡◌, ◌≢◌, ◌↔◌, ◌⊎◌, ◌+◌, ◌*◌, ◌/◌, ◌%◌, ◌≤◌, ◌<◌, ◌^◌, ◌==◌, ◌&&◌, ◌||◌, zero, suc, ℕ, Bool, true, false, not, cond, Decides, List, length, arith, refl, sym, subst, ap, ◌∙◌, inl, inr}
+use Rattle.std.proofs.Common.{◌≡◌, ◌≢◌, ◌⊎◌, ◌+◌, ◌*◌, ◌/◌, ◌%◌, ◌<◌, ◌^◌, ◌==◌, ◌&&◌, ◌||◌, zero, suc, ℕ, Bool, true, false, not, cond, Decides}
+use Rattle.std.proofs.Common.{List, arith, refl, sym, subst, ap, ◌∙◌, inl, inr}
 use Rattle.std.proofs.lemmas.Bool.{and_from, and_parts, cases_eq}
-use Rattle.std.proofs.lemmas.Bool.Decides.{nat_tests, Decides-eqb, Decides-like, Decides-not, Decides-or}
+use Rattle.std.proofs.lemmas.Bool.Decides.{Decides-eqb, Decides-like, Decides-or}
 use Rattle.bit_field.specs.Lanes.{has_lane}
 use Rattle.elf_load.specs.Image.{LoadedImage, in_ram}
 use Rattle.need_pass.specs.ProgramBits.ProgramBit.{Byte}

@@ -1,15 +1,13 @@
 -- The classes of the bits of line slots' tags.
-use Rattle.std.proofs.Common.{◌≡◌, ◌⊎◌, ◌+◌, ◌*◌, ◌/◌, ◌%◌, ◌≤◌, ◌<◌, ◌^◌, ◌==◌, ◌&&◌, ℕ, Bool, true, false, not, Decides, arith, refl, sym, subst, ap, ◌∙◌, inl, inr, if◌then◌else◌}
-use Rattle.std.proofs.lemmas.Bool.Decides.{nat_tests, Decides-and, Decides-like, Decides-not}
+use Rattle.std.proofs.Common.{◌≡◌, ◌*◌, ◌/◌, ◌%◌, ◌<◌, ◌&&◌, ℕ, Bool, true, false, not, Decides, arith, refl, sym, subst, ap, ◌∙◌, inl, inr}
+use Rattle.std.proofs.Common.{if◌then◌else◌}
+use Rattle.std.proofs.lemmas.Bool.Decides.{Decides-and, Decides-like, Decides-not}
 use Rattle.bit_field.specs.Shapes.{IsShape, slots as slot_count, tag_bits}
 use Rattle.bit_field.specs.declared.places.Place.{Place}
-use Rattle.bit_field.specs.declared.places.Structure.{Structure}
-use Rattle.bit_field.specs.declared.places.Structure.TheVariants.{CDirty, CTag, CValid}
+use Rattle.bit_field.specs.declared.places.Structure.TheVariants.{CTag}
 use Rattle.bit_field.specs.declared.shapes.Shape.{Shape}
 use Rattle.need_pass.specs.Tables.{Needs}
-use Rattle.wb_cache.specs.Changes.{set_at}
 use Rattle.wb_cache.specs.Contents.{Contents, slot_at}
-use Rattle.wb_cache.specs.Lookup.{line_of}
 use Rattle.cyc_machine.specs.EventsLaw.{IsHeld}
 use Rattle.wb_cache.proofs.Sizes.{tag_slot as slot_below}
 use Rattle.clean_lines.specs.Struck.{IsCleanSlot, IsDirtySlot, near_line, tag_line, tag_slot}
@@ -18,16 +16,16 @@ use Rattle.slot_history.specs.declared.changes.Held.{Held}
 use Rattle.slot_history.specs.declared.changes.Held.TheVariants.{Vacant, Clean, Dirty}
 use Rattle.tag_dist.specs.Tables.{Tables, looked_up_in}
 use Rattle.ace_class.specs.Classes.{number_of}
-use Rattle.ace_class.specs.declared.class.Class.{Class}
 use Rattle.ace_class.specs.declared.class.Class.TheVariants.{Ace, UnAce}
 use Rattle.ace_class.specs.declared.class.Rule.{Rule}
-use Rattle.ace_class.specs.declared.class.Rule.TheVariants.{Timing, EmptyPlace, WrongPath, OnPath, Masked, DeadRegister, DeadData, StoreRedirection, CleanData, CleanLine, UnaccessedLine, CleanTag, NoTrapCause}
+use Rattle.ace_class.specs.declared.class.Rule.TheVariants.{Timing, EmptyPlace, WrongPath, OnPath, Masked, DeadRegister, DeadData, StoreRedirection}
+use Rattle.ace_class.specs.declared.class.Rule.TheVariants.{CleanData, CleanLine, UnaccessedLine, CleanTag, NoTrapCause}
 use Rattle.ace_law.specs.Classes.{Holds, IsClass}
-use Rattle.ace_law.specs.MemoryRules.{IsAccessedAgain, IsCleanLineBit, IsUnaccessedBit, IsUnconfusedTagBit, IsUnseen, line_in}
+use Rattle.ace_law.specs.MemoryRules.{IsAccessedAgain, IsUnaccessedBit, IsUnconfusedTagBit, IsUnseen}
 use Rattle.ace_law.specs.Moments.{IsQuiet, Moment, state}
 use Rattle.ace_law.specs.PipelineRules.{IsEmptyPlaceBit}
 use Rattle.ace_law.proofs.Told.{state-shape}
-use Rattle.ace_rules.specs.Asked.{clean_line, clean_tag, dirty_class, dirty_tag, is_accessed_again, is_unlooked, tag_class, unaccessed, valid_class}
+use Rattle.ace_rules.specs.Asked.{clean_tag, dirty_tag, is_accessed_again, is_unlooked, tag_class}
 use Rattle.ace_rules.specs.Lines.{AreTablesOf}
 use Rattle.ace_rules.specs.Notes.{IsKnown}
 use Rattle.ace_rules.specs.declared.note.Note.{Note}
@@ -38,7 +36,6 @@ use Rattle.ace_rules.proofs.LineClass.{all, none}
 use Rattle.ace_rules.proofs.AccessedAgain.{accessed-again}
 use Rattle.ace_rules.proofs.PendingClass.{number-below}
 use Rattle.ace_rules.proofs.PendingTests.{is-not}
-use Rattle.ace_rules.proofs.VacantSlots.{vacant-tag}
 
 -- ---- the rules that speak of tag bits
 
@@ -97,7 +94,8 @@ module _ (a : Moment) (table : Needs) (note : Note) (quiet : Bool) (known : IsKn
 
   not-again : (line n : ℕ) → line ≡ n → Decides (not (is_accessed_again tags note line)) (IsAccessedAgain a n → ⊥)
   not-again line n e =
-      subst (λ n. Decides (not (is_accessed_again tags note line)) (IsAccessedAgain a n → ⊥)) e (Decides-not (is_accessed_again tags note line) (again line))
+      subst (λ n. Decides (not (is_accessed_again tags note line)) (IsAccessedAgain a n → ⊥)) e (Decides-not (is_accessed_again tags note line)
+      (again line))
 
   unseen : (line n : ℕ) → line ≡ n → Decides (not (looked_up_in tags (k / tag_bits shape) line a.t)) (IsUnseen a (tag_slot cache k) n)
   unseen line n e =
@@ -145,7 +143,8 @@ module _ (a : Moment) (table : Needs) (note : Note) (quiet : Bool) (known : IsKn
   tag-class held h = class-by held (subst (λ (l : ℕ). IsHeld cache l (told held)) slot-is h)
 
 -- as the code asks it
-pub tag-class-at : (a : Moment) (table : Needs) (note : Note) (quiet : Bool) → IsKnown a table note quiet → (shape : Shape) (tags : Tables) (slots : Histories)
+pub tag-class-at : (a : Moment) (table : Needs) (note : Note) (quiet : Bool) → IsKnown a table note quiet
+    → (shape : Shape) (tags : Tables) (slots : Histories)
     (cycle : ℕ) → AreTablesOf a shape tags slots cycle → (k : ℕ) → k < slot_count shape * tag_bits shape
     → IsClass (tag_class tags note quiet shape cycle (k / tag_bits shape) (k % tag_bits shape) (held_in slots (k / tag_bits shape) cycle)) a
     (record { structure = CTag; bit = k })
@@ -153,7 +152,8 @@ tag-class-at a table note quiet known shape tags slots cycle tables k within =
     let fits : IsShape shape = subst IsShape (sym tables.shape) known.told.recorded.fits in
     let there : k / tag_bits shape < slot_count shape = slot_below shape k fits within in
     let here : k / tag_bits shape < slot_count a.r.shape = subst (λ (sh : Shape). k / tag_bits shape < slot_count sh) tables.shape there in
-    subst (λ (t : ℕ). IsClass (tag_class tags note quiet shape t (k / tag_bits shape) (k % tag_bits shape) (held_in slots (k / tag_bits shape) cycle)) a
+    subst (λ (t : ℕ). IsClass (tag_class tags note quiet shape t (k / tag_bits shape) (k % tag_bits shape) (held_in slots
+    (k / tag_bits shape) cycle)) a
     (record { structure = CTag; bit = k })) tables.cycle
     (tag-class a table note quiet known shape tables.shape tags (λ line. accessed-again a table note quiet known tags tables.tags.accesses line) k
     (λ line. tables.tags.lookups (k / tag_bits shape) line a.t here) (held_in slots (k / tag_bits shape) cycle)

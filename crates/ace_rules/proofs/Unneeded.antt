@@ -1,14 +1,14 @@
 -- Which bits the instructions that haven't left the memory stage need, by the note and the table of needs.
-use Rattle.std.proofs.Common.{◌≡◌, ◌+◌, ◌-◌, ◌≤◌, ◌<◌, ◌^◌, ◌%◌, ◌==◌, ℕ, Bool, true, false, not, Decides, length, arith, refl, sym, subst, ap, ◌∙◌, inl, inr}
+use Rattle.std.proofs.Common.{◌≡◌, ◌≤◌, ◌<◌, ◌^◌, ◌==◌, ℕ, Bool, not, Decides, arith, refl, sym, subst, inl, inr}
 use Rattle.std.specs.Int.{bit_at}
 use Rattle.std.specs.Prelude.{drop}
 use Rattle.std.proofs.lemmas.Bool.{cases_lt}
-use Rattle.std.proofs.lemmas.Bool.Decides.{nat_tests, Decides-eqb, Decides-like, Decides-not}
+use Rattle.std.proofs.lemmas.Bool.Decides.{Decides-eqb, Decides-like, Decides-not}
 use Rattle.std.proofs.lemmas.Nat.Bits.{bit_at_above}
 use Rattle.bit_field.proofs.Highest.{bit_nonzero, nonzero_bit}
 use Rattle.need_pass.specs.Needed.{Needed}
 use Rattle.need_pass.specs.ProgramBits.ProgramBit.{Byte}
-use Rattle.need_pass.specs.Tables.{IsNeedOf, Needs, byte_need}
+use Rattle.need_pass.specs.Tables.{Needs, byte_need}
 use Rattle.need_pass.proofs.Facts.{facts}
 use Rattle.ace_law.specs.MemoryRules.{IsUnneeded}
 use Rattle.ace_law.specs.Moments.{IsTold, Moment, retired}
@@ -21,7 +21,8 @@ pub retired-is : (a : Moment) (table : Needs) (note : Note) → IsNote a table n
 unfolding retired_by
 retired-is a table note noted = rw (noted.left, noted.occupied) refl
 
-pub counted : (a : Moment) (table : Needs) (note : Note) → IsTold a.r a.run table → a.t < a.r.cycles → IsNote a table note → retired_by note ≤ table.count
+pub counted : (a : Moment) (table : Needs) (note : Note) → IsTold a.r a.run table → a.t < a.r.cycles → IsNote a table note
+    → retired_by note ≤ table.count
 unfolding retired_by
 counted a table note told below noted =
     let left = noted.left in
@@ -40,10 +41,12 @@ module _ (a : Moment) (table : Needs) (note : Note) (told : IsTold a.r a.run tab
   at_noted : (p j : ℕ) → Needed (drop (retired a) a.run.entries) (Byte p j) → Needed (drop (retired_by note) a.run.entries) (Byte p j)
   at_noted p j h = subst (λ i. Needed (drop i a.run.entries) (Byte p j)) (sym (retired-is a table note noted)) h
 
-  need-decides : (p j : ℕ) → p < 2 ^ 32 → j < 8 → Decides (bit_at (byte_need table p (retired_by note)) j == 1) (Needed (drop (retired a) a.run.entries) (Byte p j))
+  need-decides : (p j : ℕ) → p < 2 ^ 32 → j < 8 → Decides (bit_at (byte_need table p (retired_by note)) j == 1) (Needed (drop
+      (retired a) a.run.entries) (Byte p j))
   need-decides p j l k =
       Decides-like (bit_at (byte_need table p (retired_by note)) j == 1)
-      (λ one. at_retired p j ((told.needs.byte p j (retired_by note) l k).0 one)) (λ need. (told.needs.byte p j (retired_by note) l k).1 (at_noted p j need))
+      (λ one. at_retired p j ((told.needs.byte p j (retired_by note) l k).0 one)) (λ need. (told.needs.byte p j (retired_by note) l k).1
+      (at_noted p j need))
       (Decides-eqb (bit_at (byte_need table p (retired_by note)) j) 1)
 
   -- the bit isn't needed
@@ -67,12 +70,12 @@ module _ (a : Moment) (table : Needs) (note : Note) (told : IsTold a.r a.run tab
       elim (cases_lt 0 (byte_need table p (retired_by note))) [
         | inr z ↦ omega (arith, z)
         | inl pos ↦
-          let below = mask-below p (retired_by note) in
-          let (j, b, one) = nonzero_bit (byte_need table p (retired_by note)) pos (omega (arith, below)) in
-          elim (cases_lt j 8) [
-            | inl k ↦ absurd (none j (at_retired p j ((told.needs.byte p j (retired_by note) l k).0 one)))
-            | inr k ↦ absurd (omega (arith, one, bit_at_above (byte_need table p (retired_by note)) 8 j below k))
-          ]
+            let below = mask-below p (retired_by note) in
+            let (j, b, one) = nonzero_bit (byte_need table p (retired_by note)) pos (omega (arith, below)) in
+            elim (cases_lt j 8) [
+              | inl k ↦ absurd (none j (at_retired p j ((told.needs.byte p j (retired_by note) l k).0 one)))
+              | inr k ↦ absurd (omega (arith, one, bit_at_above (byte_need table p (retired_by note)) 8 j below k))
+            ]
       ]
 
   -- no bit of the byte is needed

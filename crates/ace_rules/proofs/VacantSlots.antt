@@ -1,11 +1,11 @@
 -- In a run from reset a slot that holds no line has the tag 0.
-use Rattle.std.proofs.Common.{◌≡◌, ℕ, zero, suc, ◌+◌, ◌<◌, ◌/◌, ◌%◌, Bool, true, false, cond, arith, refl, sym, subst, ap, ◌∙◌}
+use Rattle.std.proofs.Common.{◌≡◌, ℕ, zero, suc, ◌<◌, Bool, true, false, cond, sym, subst, ap}
 use Rattle.std.specs.Prelude.{Option, Some, None, ◌==◌, ◌&&◌}
 use Rattle.bit_field.specs.Shapes.{IsShape, slots as slot_count}
 use Rattle.bit_field.specs.declared.shapes.Shape.{Shape}
 use Rattle.elf_load.specs.Image.{LoadedImage, IsImage, ram_byte}
 use Rattle.store_buf.specs.Pending.{oldest, pending}
-use Rattle.wb_cache.specs.Changes.{filled_slot, put_slot, set_at, way_at, written_slot}
+use Rattle.wb_cache.specs.Changes.{filled_slot, set_at, way_at, written_slot}
 use Rattle.wb_cache.specs.Contents.{Slot, slot_at, slots}
 use Rattle.wb_cache.specs.declared.event.CacheEvent.{CacheEvent}
 use Rattle.wb_cache.specs.declared.event.EventKind.{EventKind}
@@ -54,7 +54,8 @@ module _ (image : LoadedImage) (shape : Shape) (is : IsImage image) (fits : IsSh
   zero-at (suc t) =
       let s : State = state_after t (reset image shape) in
       subst AreZero (sym (event-law s (steady-after t (reset image shape) (steady-reset image shape is fits))).lines)
-      (by-event (event_in s) s.cache.shape (value_drained (oldest (pending s.stores))) (ram_byte (cycle s).image (cycle s).memory) (slots s.cache) (zero-at t))
+      (by-event (event_in s) s.cache.shape (value_drained (oldest (pending s.stores))) (ram_byte (cycle s).image (cycle s).memory) (slots s.cache)
+      (zero-at t))
 
 pub vacant-tag : (a : Moment) (table : Needs) → IsTold a.r a.run table → (l : ℕ) → l < slot_count a.r.shape
     → (slot_at (state a).cache l).valid ≡ false → (slot_at (state a).cache l).tag ≡ 0

@@ -1,13 +1,16 @@
 -- What is kept of a run for the classes of its bits.
-use Rattle.std.specs.Prelude.{◌≡◌, ℕ, List}
+use Rattle.std.specs.Prelude.{◌≡◌, ◌≤◌, ◌<◌, ℕ, List}
+use Rattle.bit_field.specs.declared.places.Place.{Place}
+use Rattle.ace_class.specs.declared.class.Class.{Class}
 use Rattle.need_pass.specs.Tables.{Needs}
 use Rattle.line_life.specs.Lives.{IsLifeOf, Lives}
 use Rattle.tag_dist.specs.Tables.{IsTableOf, Tables}
 use Rattle.slot_history.specs.HeldBefore.{IsSlotTable}
 use Rattle.slot_history.specs.Histories.{Histories}
 use Rattle.run_record.specs.Run.{RecordedRun}
+use Rattle.ace_law.specs.Classes.{IsClass}
 use Rattle.ace_law.specs.Moments.{IsTold}
-use Rattle.ace_rules.specs.Notes.{AreNotes, Story}
+use Rattle.ace_rules.specs.Notes.{AreNotes, Story, moment}
 use Rattle.ace_rules.specs.declared.note.Note.{Note}
 
 -- the table of needs is that of the run, the notes are those of its cycles and instructions, and the tables of lifetimes, of look-ups and
@@ -26,3 +29,8 @@ pub record IsSomeAnalysis (r : RecordedRun) (table : Needs) (notes : List Note) 
   pub story : Story
   pub record_is : story.r ≡ r
   pub kept : IsAnalysis story table notes words quiet life tags slots
+
+-- the bit at a place has one class from one cycle up to before another
+pub record HasOneClass (story : Story) (place : Place) (from until : ℕ) : Type 0 where
+  pub class : Class
+  pub is : (t : ℕ) → from ≤ t → t < until → IsClass class (moment story t) place

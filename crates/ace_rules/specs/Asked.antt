@@ -1,5 +1,6 @@
 -- What the code asks of a note, of the needs and of the image. No clause of a public call speaks of it.
-use Rattle.std.specs.Prelude.{⊤, ℕ, ◌+◌, ◌-◌, ◌*◌, ◌/◌, ◌%◌, ◌^◌, ◌<◌, ◌==◌, suc, Bool, false, not, ◌&&◌, ◌||◌, nat_le, List, Option, Some, None, drop, is_some, if◌then◌else◌}
+use Rattle.std.specs.Prelude.{⊤, ℕ, ◌+◌, ◌-◌, ◌*◌, ◌/◌, ◌%◌, ◌^◌, ◌<◌, ◌==◌, Bool}
+use Rattle.std.specs.Prelude.{false, not, ◌&&◌, ◌||◌, nat_le, List, Option, Some, None, drop, is_some, if◌then◌else◌}
 use Rattle.std.specs.Int.{bit_at}
 use Rattle.bit_field.specs.Lanes.{has_lane}
 use Rattle.bit_field.specs.declared.shapes.Shape.{Shape}

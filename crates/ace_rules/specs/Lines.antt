@@ -1,10 +1,13 @@
 -- What is known of the tables of a run's cache in a cycle of the run.
 use Rattle.std.specs.Prelude.{◌≡◌, ℕ, Bool}
+use Rattle.bit_field.specs.declared.places.Place.{Place}
 use Rattle.bit_field.specs.declared.shapes.Shape.{Shape}
 use Rattle.need_pass.specs.Tables.{Needs}
 use Rattle.slot_history.specs.HeldBefore.{IsSlotTable}
 use Rattle.slot_history.specs.Histories.{Histories}
 use Rattle.tag_dist.specs.Tables.{IsTableOf, Tables}
+use Rattle.ace_class.specs.declared.class.Class.{Class}
+use Rattle.ace_law.specs.Classes.{IsClass}
 use Rattle.ace_law.specs.Moments.{Moment}
 use Rattle.ace_rules.specs.Notes.{IsKnown}
 use Rattle.ace_rules.specs.declared.note.Note.{Note}
@@ -21,3 +24,8 @@ pub record IsSomeLineMoment (note : Note) (quiet : Bool) (cache : Shape) (access
   pub table : Needs
   pub known : IsKnown a table note quiet
   pub tables : AreTablesOf a cache accesses lines t
+
+-- this is the class of the bit, whatever run the tables are of
+abbrev pub IsLineClass : Class → Note → Bool → Shape → Tables → Histories → ℕ → Place → Type 0
+IsLineClass class note quiet cache accesses lines t p =
+    (a : Moment) (table : Needs) → IsKnown a table note quiet → AreTablesOf a cache accesses lines t → IsClass class a p

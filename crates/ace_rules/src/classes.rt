@@ -15,6 +15,7 @@ use crate::pending::pending_class;
 use crate::registers::register_class;
 use crate::timing::{next_class, timing_class};
 use ace_class::Class;
+use ace_law::un_ace_law;
 use bit_field::{Place, Structure};
 use line_life::Life;
 use need_pass::NeedTable;
@@ -71,5 +72,58 @@ fn class_in(
         Structure::CValid => valid_class(note, quiet, tags, slots, &shape, cycle, bit),
         Structure::CDirty => dirty_class(note, quiet, tags, slots, &shape, cycle, bit),
         Structure::CLru => timing_class(quiet),
+    }
+}
+
+impl Analysis<'_> {
+    ghost use Rattle.std.specs.Prelude.{◌≡◌, ◌<◌, ◌≤◌};
+    ghost use Rattle.bit_field.specs.Shapes.{IsPlaceIn};
+    ghost use Rattle.ace_class.specs.declared.class.Class.TheVariants.{UnAce};
+    ghost use Rattle.ace_class.specs.declared.class.Rule.{Rule};
+    ghost use Rattle.run_record.specs.Verdict.{HasSame, flipped};
+    ghost use Rattle.ace_law.specs.Classes.{IsClass};
+    ghost use Rattle.ace_rules.specs.Analyses.{HasOneClass};
+    ghost use Rattle.ace_rules.specs.Notes.{moment};
+
+    /// The class of the bit at a place in a cycle of the run: the first of the rules that holds, or ACE. What it calls un-ACE is harmless:
+    /// the run with that bit flipped before that cycle has the recorded output and end, within the bound. It takes no memory.
+    pub fn class_of(&self, place: &Place, cycle: u32) -> Class
+        requires place { IsPlaceIn self.now.r.shape place.now }
+        requires cycle { cycle < self.now.r.cycles }
+        ensures class { IsClass result (moment self.now cycle) place.now }
+        ensures harmless { (rule : Rule) → result ≡ UnAce rule → HasSame self.now.r cycle (flipped self.now.r cycle place.now) }
+    {
+        un_ace_law();
+        class_in(
+            &self.recorded,
+            &self.needs,
+            &self.notes,
+            &self.words,
+            self.quiet,
+            &self.life,
+            &self.tags,
+            &self.slots,
+            place,
+            cycle,
+        )
+    }
+
+    /// A cycle above `cycle`, at most the number of cycles of the run, up to before which the bit at the place has the class that it has in
+    /// `cycle`: the first in which it has another. It takes no memory.
+    pub fn same_until(&self, place: &Place, cycle: u32) -> u32
+        requires place { IsPlaceIn self.now.r.shape place.now }
+        requires cycle { cycle < self.now.r.cycles }
+        ensures after { cycle < result }
+        ensures within { result ≤ self.now.r.cycles }
+        ensures same { HasOneClass self.now place.now cycle result }
+    {
+        let class = self.class_of(place, cycle);
+        let cycles = self.recorded.cycles();
+        for later in cycle + 1..cycles {
+            if self.class_of(place, later).number() != class.number() {
+                return later;
+            }
+        }
+        cycles
     }
 }

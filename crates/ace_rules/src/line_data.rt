@@ -4,11 +4,9 @@ ghost use Rattle.bit_field.specs.Shapes.{IsShape, slots as slot_count};
 ghost use Rattle.bit_field.specs.declared.places.Structure.TheVariants.{CData};
 ghost use Rattle.slot_history.specs.Histories.{held_in};
 ghost use Rattle.line_life.specs.Lives.{next_in};
-ghost use Rattle.ace_law.specs.Classes.{IsClass};
 ghost use Rattle.ace_rules.specs.Asked as asked;
 ghost use Rattle.ace_rules.specs.LineData as line_data;
-ghost use Rattle.ace_rules.specs.LineData.{AreDataTables, AreSomeDataTables};
-ghost use Rattle.ace_rules.specs.Notes.{Story, moment};
+ghost use Rattle.ace_rules.specs.LineData.{AreSomeDataTables, IsDataClass};
 ghost use Rattle.ace_rules.specs.declared.note.Note.{Note as CycleNote};
 
 use crate::note::Note;
@@ -58,7 +56,8 @@ fn is_dead_in(
 {
     match notes.get(cycle as usize) {
         None => true,
-        Some(note) => quiet <= cycle && is_dead_line(note, needs, slots.held(slot, cycle), offset, bit),
+        Some(note) => quiet <= cycle
+            && is_dead_line(note, needs, slots.held(slot, cycle), offset, bit),
     }
 }
 
@@ -125,7 +124,7 @@ fn class_of(
     requires offset { offset < 16 }
     requires bit { bit < 8 }
     requires next { line_data.IsNextBelow 4294967295 next }
-    ensures { result ≡ line_data.data_class held (line_data.is_dead_in needs.now quiet slots.now slot offset bit cycle (slice_get notes.now cycle)) (line_data.is_unread needs.now notes.now quiet slots.now slot offset bit next) }
+    ensures { result ≡ line_data.data_class_in needs.now notes.now quiet slots.now cycle slot offset bit held next }
 {
     match held {
         Held::Vacant => Class::UnAce(Rule::EmptyPlace),
@@ -161,11 +160,22 @@ pub(crate) fn data_class(
     requires bit { bit < slot_count shape.now * 128 }
     requires cycle { cycle < length notes.now }
     requires some { AreSomeDataTables needs.now notes.now quiet shape.now life.now slots.now }
-    ensures { (story : Story) → AreDataTables story needs.now notes.now quiet shape.now life.now slots.now → IsClass result (moment story cycle) (record { structure = CData; bit = bit }) }
+    ensures { IsDataClass result needs.now notes.now quiet shape.now life.now slots.now cycle (record { structure = CData; bit = bit }) }
 {
     let slot = bit / 128;
     let offset = bit % 128 / 8;
     let held = slots.held(slot, cycle);
     let next = next_at(life, shape, slot, offset, cycle);
-    class_of(notes, quiet, needs, slots, cycle, slot, offset, bit % 8, held, next)
+    class_of(
+        notes,
+        quiet,
+        needs,
+        slots,
+        cycle,
+        slot,
+        offset,
+        bit % 8,
+        held,
+        next,
+    )
 }

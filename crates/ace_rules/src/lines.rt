@@ -2,12 +2,8 @@
 ghost use Rattle.std.specs.Prelude.{◌≡◌, ◌<◌, ◌*◌, ◌^◌};
 ghost use Rattle.bit_field.specs.Shapes.{IsShape, slots as slot_count, tag_bits as tag_width};
 ghost use Rattle.bit_field.specs.declared.places.Structure.TheVariants.{CDirty, CTag, CValid};
-ghost use Rattle.need_pass.specs.Tables.{Needs};
-ghost use Rattle.ace_law.specs.Classes.{IsClass};
-ghost use Rattle.ace_law.specs.Moments.{Moment};
 ghost use Rattle.ace_rules.specs.Asked as asked;
-ghost use Rattle.ace_rules.specs.Lines.{AreTablesOf, IsSomeLineMoment};
-ghost use Rattle.ace_rules.specs.Notes.{IsKnown};
+ghost use Rattle.ace_rules.specs.Lines.{IsLineClass, IsSomeLineMoment};
 
 use crate::later::is_accessed_again;
 use crate::note::Note;
@@ -42,7 +38,14 @@ fn clean_line(quiet: bool) -> Class
 
 /// The class of a slot's valid bit, by what the slot holds. Where it holds nothing, its tag is 0.
 #[tactic(auto, unfolding(crate::specs::Asked::valid_class))]
-fn valid_class_of(note: &Note, quiet: bool, tags: &TagTable, shape: &Shape, slot: u32, held: Held) -> Class
+fn valid_class_of(
+    note: &Note,
+    quiet: bool,
+    tags: &TagTable,
+    shape: &Shape,
+    slot: u32,
+    held: Held,
+) -> Class
     requires { IsShape shape.now }
     ensures { result ≡ asked.valid_class tags.now note.now quiet shape.now slot held }
 {
@@ -158,7 +161,7 @@ pub(crate) fn valid_class(
 ) -> Class
     requires slot { slot < slot_count shape.now }
     requires some { IsSomeLineMoment note.now quiet shape.now tags.now slots.now cycle }
-    ensures { (a : Moment) → (table : Needs) → IsKnown a table note.now quiet → AreTablesOf a shape.now tags.now slots.now cycle → IsClass result a (record { structure = CValid; bit = slot }) }
+    ensures { IsLineClass result note.now quiet shape.now tags.now slots.now cycle (record { structure = CValid; bit = slot }) }
 {
     valid_class_of(note, quiet, tags, shape, slot, slots.held(slot, cycle))
 }
@@ -175,7 +178,7 @@ pub(crate) fn dirty_class(
 ) -> Class
     requires slot { slot < slot_count shape.now }
     requires some { IsSomeLineMoment note.now quiet shape.now tags.now slots.now cycle }
-    ensures { (a : Moment) → (table : Needs) → IsKnown a table note.now quiet → AreTablesOf a shape.now tags.now slots.now cycle → IsClass result a (record { structure = CDirty; bit = slot }) }
+    ensures { IsLineClass result note.now quiet shape.now tags.now slots.now cycle (record { structure = CDirty; bit = slot }) }
 {
     dirty_class_of(note, quiet, tags, slots.held(slot, cycle))
 }
@@ -192,9 +195,18 @@ pub(crate) fn tag_class(
 ) -> Class
     requires bit { bit < slot_count shape.now * tag_width shape.now }
     requires some { IsSomeLineMoment note.now quiet shape.now tags.now slots.now cycle }
-    ensures { (a : Moment) → (table : Needs) → IsKnown a table note.now quiet → AreTablesOf a shape.now tags.now slots.now cycle → IsClass result a (record { structure = CTag; bit = bit }) }
+    ensures { IsLineClass result note.now quiet shape.now tags.now slots.now cycle (record { structure = CTag; bit = bit }) }
 {
     let width = tag_bits(shape);
     let slot = bit / width;
-    tag_class_of(note, quiet, tags, shape, cycle, slot, bit % width, slots.held(slot, cycle))
+    tag_class_of(
+        note,
+        quiet,
+        tags,
+        shape,
+        cycle,
+        slot,
+        bit % width,
+        slots.held(slot, cycle),
+    )
 }

@@ -90,7 +90,9 @@ fn is_spared(note: &Note, needs: &NeedTable, image: &Image, slot: u32, byte: u32
     requires slot { slot < SLOTS }
     ensures { result ≡ asked.is_spared image.now needs.now note.now slot byte }
 {
-    !image.in_ram(byte) || is_pending_from(&note.stores, slot + 1, byte) || is_unneeded(note, needs, byte)
+    !image.in_ram(byte)
+        || is_pending_from(&note.stores, slot + 1, byte)
+        || is_unneeded(note, needs, byte)
 }
 
 /// Whether just one of two stores writes a byte.
@@ -146,7 +148,13 @@ fn is_harmless_in(
 
 /// Whether it does no harm that the store in a slot is redirected so.
 #[tactic(auto, unfolding(crate::specs::Asked::is_harmless))]
-fn is_harmless(note: &Note, needs: &NeedTable, image: &Image, slot: u32, redirected: &Pending) -> bool
+fn is_harmless(
+    note: &Note,
+    needs: &NeedTable,
+    image: &Image,
+    slot: u32,
+    redirected: &Pending,
+) -> bool
     requires instruction { asked.retired_by note.now ≤ needs.now.count }
     requires slot { slot < SLOTS }
     ensures { result ≡ asked.is_harmless image.now needs.now note.now slot redirected.now }
@@ -224,5 +232,14 @@ pub(crate) fn pending_class(
 {
     let slot = bit / PENDING_BITS;
     let (field, place) = field_at(&PENDING_FIELDS, bit % PENDING_BITS);
-    class_in(note, needs, image, quiet, slot, bit % PENDING_BITS, field, place)
+    class_in(
+        note,
+        needs,
+        image,
+        quiet,
+        slot,
+        bit % PENDING_BITS,
+        field,
+        place,
+    )
 }

@@ -1,5 +1,4 @@
-use Rattle.std.proofs.Common.{◌/◌, ◌%◌, ◌<◌, ℕ, arith, subst, sym}
-use Rattle.bit_field.specs.Shapes.{slots as slot_count}
+use Rattle.std.proofs.Common.{arith, subst, sym}
 use Rattle.bit_field.specs.declared.places.Structure.TheVariants.{CData}
 use Rattle.event_log.specs.declared.next.Next.{Next}
 use Rattle.ace_law.specs.Classes.{IsClass}
@@ -35,4 +34,5 @@ returns c story tables =
     let count = tables.cycles in
     subst (λ class. IsClass class (moment story c.args.cycle) (record { structure = CData; bit = c.args.bit })) (sym c.class_of.ensures)
     (data-class story c.args.needs.now c.args.notes.now c.args.quiet c.args.shape.now c.args.life.now c.args.slots.now tables c.args.bit
-    (omega (arith, bit)) c.args.cycle (omega (arith, cycle, count)) c.held-held.result c.held-held.ensures c.next_at-next.result c.next_at-next.ensures)
+    (omega (arith, bit)) c.args.cycle (omega
+    (arith, cycle, count)) c.held-held.result c.held-held.ensures c.next_at-next.result c.next_at-next.ensures)

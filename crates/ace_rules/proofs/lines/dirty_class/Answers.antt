@@ -10,4 +10,5 @@ pub returns : goal.returns
 returns c a table known tables =
     subst (λ class. IsClass class a (record { structure = CDirty; bit = c.args.slot }))
     (sym (c.dirty_class_of.ensures ∙ ap (λ (held : Held). asked.dirty_class c.args.tags.now c.args.note.now c.args.quiet held) c.held.ensures))
-    (dirty-class-at a table c.args.note.now c.args.quiet known c.args.shape.now c.args.tags.now c.args.slots.now c.args.cycle tables c.args.slot c.requires.slot)
+    (dirty-class-at a table c.args.note.now c.args.quiet known c.args.shape.now c.args.tags.now
+    c.args.slots.now c.args.cycle tables c.args.slot c.requires.slot)

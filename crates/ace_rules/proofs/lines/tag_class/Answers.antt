@@ -18,8 +18,10 @@ pub returns : goal.returns
 returns c a table known tables =
     subst (λ class. IsClass class a (record { structure = CTag; bit = c.args.bit }))
     (sym (c.tag_class_of.ensures
-    ∙ ap (λ (held : Held). asked.tag_class c.args.tags.now c.args.note.now c.args.quiet c.args.shape.now c.args.cycle (c.args.bit / c.tag_bits-width.result)
+    ∙ ap (λ (held : Held). asked.tag_class c.args.tags.now c.args.note.now c.args.quiet c.args.shape.now c.args.cycle
+    (c.args.bit / c.tag_bits-width.result)
     (c.args.bit % c.tag_bits-width.result) held) c.held.ensures
     ∙ ap (λ (w : ℕ). asked.tag_class c.args.tags.now c.args.note.now c.args.quiet c.args.shape.now c.args.cycle (c.args.bit / w) (c.args.bit % w)
     (held_in c.args.slots.now (c.args.bit / w) c.args.cycle)) c.tag_bits-width.ensures))
-    (tag-class-at a table c.args.note.now c.args.quiet known c.args.shape.now c.args.tags.now c.args.slots.now c.args.cycle tables c.args.bit c.requires.bit)
+    (tag-class-at a table c.args.note.now c.args.quiet known c.args.shape.now c.args.tags.now
+    c.args.slots.now c.args.cycle tables c.args.bit c.requires.bit)

@@ -9,5 +9,7 @@ use Rattle.ace_rules.proofs.lines.valid_class.Goals as goal
 pub returns : goal.returns
 returns c a table known tables =
     subst (λ class. IsClass class a (record { structure = CValid; bit = c.args.slot }))
-    (sym (c.valid_class_of.ensures ∙ ap (λ (held : Held). asked.valid_class c.args.tags.now c.args.note.now c.args.quiet c.args.shape.now c.args.slot held) c.held.ensures))
-    (valid-class-at a table c.args.note.now c.args.quiet known c.args.shape.now c.args.tags.now c.args.slots.now c.args.cycle tables c.args.slot c.requires.slot)
+    (sym (c.valid_class_of.ensures
+    ∙ ap (λ (held : Held). asked.valid_class c.args.tags.now c.args.note.now c.args.quiet c.args.shape.now c.args.slot held) c.held.ensures))
+    (valid-class-at a table c.args.note.now c.args.quiet known c.args.shape.now c.args.tags.now
+    c.args.slots.now c.args.cycle tables c.args.slot c.requires.slot)
