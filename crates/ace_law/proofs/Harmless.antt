@@ -1,5 +1,6 @@
 -- A state whose flush is alike ends as the recorded run: each cycle keeps the flush alike.
-use Rattle.std.proofs.Common.{◌≡◌, ◌≤◌, ◌⊎◌, inl, inr, ℕ, zero, suc, Bool, true, false, List, [], ◌∷◌, length, arith, refl, ap, sym, subst}
+use Rattle.std.proofs.Math.Seq.{drop-nil}
+use Rattle.std.proofs.Common.{◌≡◌, ◌≤◌, ◌⊎◌, inl, inr, ℕ, Bool, true, false, List, [], ◌∷◌, length, arith, refl, ap, sym, subst}
 use Rattle.std.proofs.Common.{◌∙◌, map, drop}
 use Rattle.std.specs.Prelude.{None, Some, Option, is_none, ◌==◌, ◌&&◌, if◌then◌else◌}
 use Rattle.avf_base.specs.declared.end.End.{End}
@@ -36,10 +37,6 @@ use Rattle.ace_law.proofs.Lasting.{Lasting}
 
 -- ---- where the spare clock value is left, the cycle issues no read of the cycle counter
 
-none_left : (n : ℕ) → drop {A = ℕ} n [] ≡ []
-none_left zero = refl
-none_left (suc n) = refl
-
 clocked-clocks : (image : LoadedImage) (item : Item) (at : Arch) → is_clocked item.op ≡ true
     → (completed_item image item at).clocks ≡ later_clocks at.clocks
 unfolding completed
@@ -52,7 +49,7 @@ unfolding completed_path
 clock-taken image item items at clocks clocked reached =
     let rest = path-takes image items (completed_item image item at) in
     let first : (completed_item image item at).clocks ≡ [] = clocked-clocks image item at clocked ∙ ap later_clocks clocks in
-    rw reached (rest.is ∙ ap (drop rest.taken) first ∙ none_left rest.taken)
+    rw reached (rest.is ∙ ap (drop rest.taken) first ∙ drop-nil rest.taken)
 
 reached-by : (o : Option End) (b : Bool) → o ≡ None → b ≡ true → is_none o && b ≡ true
 reached-by o b e f = rw (e, f) refl

@@ -39,7 +39,7 @@ unfolding flush
 flush-by u image log base e f = ap (λ (x : LoadedImage). completed_path x (path u) (latched u spare log)) e ∙ ap (completed_path image (path u)) f
 
 -- what EX/MEM does is one action more at most
-one_at_most : (b : Bool) → (if b then 1 else 0) ≤ 1
+pub one_at_most : (b : Bool) → (if b then 1 else 0) ≤ 1
 one_at_most true = omega arith
 one_at_most false = omega arith
 

@@ -42,7 +42,7 @@ at_most n m p end running ends = go (nat_lt n m) refl
     go true e = let none : p ≡ None = running (grind (arith, nat_tests)) in absurd cc
     go false e = grind (arith, nat_tests)
 
-entry_within : (xs : List Retired) (i : ℕ) (entry : Retired) → slice_get xs i ≡ Some entry → i < length xs
+pub entry_within : (xs : List Retired) (i : ℕ) (entry : Retired) → slice_get xs i ≡ Some entry → i < length xs
 entry_within [] i entry h = absurd cc
 entry_within (x ∷ xs) zero entry h = omega arith
 entry_within (x ∷ xs) (suc i) entry h = let l = entry_within xs i entry h in omega (arith, l)

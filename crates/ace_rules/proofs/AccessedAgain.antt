@@ -12,7 +12,7 @@ use Rattle.tag_dist.specs.Lines.{accesses, last_access, last_below}
 use Rattle.tag_dist.specs.Tables.{Tables, last_in}
 use Rattle.ace_law.specs.MemoryRules.{IsAccessedAgain, IsAccessedLater, IsPendingLine}
 use Rattle.ace_law.specs.Moments.{Moment, retired}
-use Rattle.ace_law.proofs.Told.{state-steady}
+use Rattle.ace_law.proofs.Told.{entry_within, state-steady}
 use Rattle.ace_rules.specs.Asked.{goes_to, is_accessed_again, is_later, is_pending_line, retired_by}
 use Rattle.ace_rules.specs.Notes.{IsKnown}
 use Rattle.ace_rules.specs.declared.note.Note.{Note}
@@ -51,11 +51,6 @@ accesses-to : (line : ℕ) (o : Option Retired) → option_map_or (accesses line
     → (entry : Retired) × (o ≡ Some entry) × (accesses line entry ≡ true)
 accesses-to line None h = absurd cc
 accesses-to line (Some entry) h = (entry, refl, h)
-
-get-below : (xs : List Retired) (i : ℕ) (entry : Retired) → slice_get xs i ≡ Some entry → i < length xs
-get-below [] i entry h = absurd cc
-get-below (x ∷ xs) zero entry h = omega arith
-get-below (x ∷ xs) (suc i) entry h = let l = get-below xs i entry h in omega (arith, l)
 
 -- ---- pending stores
 
@@ -147,7 +142,7 @@ module _ (a : Moment) (table : Needs) (note : Note) (quiet : Bool) (known : IsKn
         λ h.
             let (i, entry, l, get, acc) = h in
             later-from (length a.run.entries) (retired_by note) tests
-            (i, omega (arith, left, l), get-below a.run.entries i entry get, ap (λ o. option_map_or (accesses line) o false) get ∙ acc),
+            (i, omega (arith, left, l), entry_within a.run.entries i entry get, ap (λ o. option_map_or (accesses line) o false) get ∙ acc),
       )
 
   slots-four : length note.stores ≡ 4

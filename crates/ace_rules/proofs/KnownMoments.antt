@@ -49,7 +49,7 @@ module _ (story : Story) (table : Needs) (notes : List Note) (words : List ℕ) 
   masks t = record {
     instructions = kept.noted.instructions;
     each = λ i mask at. let m = kept.noted.word i mask at in
-      record { arch = m.arch; image = m.image; stands = m.stands; exact = m.exact; all = m.all };
+        record { arch = m.arch; image = m.image; stands = m.stands; exact = m.exact; all = m.all };
   }
 
   pub tables : (t : ℕ) (shape : Shape) → shape ≡ r.shape → AreTablesOf (moment story t) shape tags slots t

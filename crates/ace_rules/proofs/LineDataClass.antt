@@ -1,22 +1,20 @@
 -- The classes of the data bits of line slots.
-use Rattle.std.proofs.Common.{◌≡◌, ◌⊎◌, ◌+◌, ◌*◌, ◌/◌, ◌%◌, ◌≤◌, ◌<◌, ◌^◌, ◌==◌, ◌&&◌, zero, suc, ℕ, Bool, true, false, not, cond, Decides, List}
-use Rattle.std.proofs.Common.{[], ◌∷◌, Option, Some, None, is_some, length, nat_le, slice_get, arith, refl, sym, subst, ap, ◌∙◌, inl, inr}
+use Rattle.std.proofs.Common.{◌≡◌, ◌⊎◌, ◌+◌, ◌*◌, ◌/◌, ◌%◌, ◌≤◌, ◌<◌, ◌^◌, ◌==◌, ◌&&◌, zero, suc, ℕ, Bool, true, false, not, Decides, List}
+use Rattle.std.proofs.Common.{[], ◌∷◌, Some, None, is_some, length, nat_le, slice_get, arith, refl, sym, subst, ap, ◌∙◌, inl, inr}
 use Rattle.std.proofs.Common.{if◌then◌else◌}
 use Rattle.std.specs.Int.{bit_at}
-use Rattle.std.specs.Option.{option_or}
 use Rattle.std.proofs.lemmas.Bool.{cases_eq}
 use Rattle.std.proofs.lemmas.Bool.Decides.{nat_tests, Decides-and, Decides-like, Decides-or}
-use Rattle.std.proofs.lemmas.Nat.Bits.{bit_at-zero}
-use Rattle.bit_field.specs.Lanes.{has_lane, lane_byte}
 use Rattle.bit_field.specs.Shapes.{slots as slot_count}
 use Rattle.bit_field.specs.declared.places.Place.{Place}
 use Rattle.bit_field.specs.declared.places.Structure.TheVariants.{CData}
 use Rattle.bit_field.specs.declared.shapes.Shape.{Shape}
 use Rattle.need_pass.specs.ProgramBits.ProgramBit.{Byte}
 use Rattle.need_pass.specs.Tables.{Needs, byte_need}
-use Rattle.store_buf.specs.Covers.{found, held}
+use Rattle.store_buf.specs.Covers.{found}
 use Rattle.store_buf.specs.Entry.{Entry}
-use Rattle.store_buf.specs.Pending.{is_pending, pending}
+use Rattle.store_buf.specs.Pending.{pending}
+use Rattle.store_buf.proofs.Youngest.{found-pending}
 use Rattle.wb_cache.specs.Changes.{set_at}
 use Rattle.wb_cache.specs.Contents.{slot_at}
 use Rattle.wb_cache.specs.Lookup.{line_of}
@@ -83,34 +81,6 @@ module _ (a : Moment) (k : ℕ) where
   data-judged false false false is-e is-d is-u =
       λ rule. data-earlier 14 (λ l h. let t = is-e.1 h in absurd cc) (λ l h. let t = is-d.1 h in absurd cc) (λ l h. let t = is-u.1 h in absurd cc)
       rule (number-below rule)
-
--- ---- pending bytes
-
-free-holds : (e : Entry) (addr lane : ℕ) → is_pending e ≡ false → held e addr lane ≡ None
-unfolding held
-free-holds e addr lane h =
-    let z : e.mask ≡ 0 = grind (arith, nat_tests) in
-    let off : has_lane e.mask lane ≡ false = rw z (let b = bit_at-zero lane in grind (arith, nat_tests)) in
-    go (e.addr == addr) (has_lane e.mask lane) off
-  where
-    go : (x y : Bool) → y ≡ false → cond (x && y) (Some (lane_byte e.value lane)) None ≡ None
-    go true y h = rw h refl
-    go false y h = refl
-
-or-none : (o : Option ℕ) → option_or o None ≡ o
-or-none None = refl
-or-none (Some x) = refl
-
--- a free slot holds no byte
-pub found-pending : (xs : List Entry) (addr lane : ℕ) → found (pending xs) addr lane ≡ found xs addr lane
-unfolding found
-found-pending [] addr lane = refl
-found-pending (e ∷ xs) addr lane = go (is_pending e) refl (found-pending xs addr lane)
-  where
-    go : (b : Bool) → is_pending e ≡ b → found (pending xs) addr lane ≡ found xs addr lane
-        → found (if b then e ∷ pending xs else pending xs) addr lane ≡ option_or (found xs addr lane) (held e addr lane)
-    go true h rest = ap (λ o. option_or o (held e addr lane)) rest
-    go false h rest = rest ∙ sym (ap (λ o. option_or (found xs addr lane) o) (free-holds e addr lane h) ∙ or-none (found xs addr lane))
 
 get-some : (xs : List Note) (i : ℕ) → i < length xs → (x : Note) × (slice_get xs i ≡ Some x)
 get-some [] i l = absurd (omega (arith, l))

@@ -35,6 +35,7 @@ use Rattle.ace_law.proofs.Alike.{count_of, spare}
 use Rattle.ace_law.proofs.Told.{done, done-puts, executed-within, later}
 use Rattle.ace_law.proofs.Masked.Does.{Does, spare-below}
 use Rattle.ace_law.proofs.Masked.Latches.{decoded-least, latches_of, outcome-is, outcome-unread}
+use Rattle.ace_law.proofs.SparedPaths.{one_at_most}
 
 -- a state with other latches
 abbrev pub with_latches : State → Latches → State
@@ -104,10 +105,6 @@ module _ (image : LoadedImage) (l : Latches) (at : Arch) where
   outcome-most =
       most_if (is_latch_reached l.d (latches_completed image (action_of l.m) l.w at)) (length (logged at.log (action_of l.m)).actions)
       (completed_item image item (latches_completed image (action_of l.m) l.w at)) (latches_completed image (action_of l.m) l.w at) behind refl
-
-flag : (b : Bool) → (if b then 1 else 0) ≤ 1
-flag true = omega arith
-flag false = omega arith
 
 -- ---- its numbers are in their ranges: it is the flush of the state with an empty instruction buffer
 
@@ -209,13 +206,13 @@ module _ (a : Moment) (table : Needs) (told : IsTold a.r a.run table) (below : a
     going = λ none.
         let more = outcome-actions (state a).image l base (seems.stop ∙ none) in
         let first = latch-logged log.actions l.m in
-        let most = flag l.m.valid in
+        let most = one_at_most l.m.valid in
         let place = least-by l.d.valid l.d.pc valid pc none in
         omega (arith, more, first, most, place, within);
     ended = λ last.
         let more = outcome-most (state a).image l base in
         let first = latch-logged log.actions l.m in
-        let most = flag l.m.valid in
+        let most = one_at_most l.m.valid in
         let least = executed-within a table told below in
         omega (arith, more, first, most, least, within);
   }

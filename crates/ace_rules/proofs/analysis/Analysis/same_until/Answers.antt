@@ -14,5 +14,5 @@ loop-later-preserved c = record { same = λ t from until. go t from until (cases
     go t from until (inl here) =
         subst (λ (t : ℕ). IsClass c.class_of-class.result (moment c.args.self.now t) c.args.place.now) (sym here)
         (subst (λ (class : Class). IsClass class (moment c.args.self.now c.loop-later.later) c.args.place.now)
-          (same-class c.class_of.result c.class_of-class.result (sym c.number.ensures ∙ c.if-number.false ∙ c.number-in-loop-later.ensures)) c.class_of.ensures.class)
+        (same-class c.class_of.result c.class_of-class.result (sym c.number.ensures ∙ c.if-number.false ∙ c.number-in-loop-later.ensures)) c.class_of.ensures.class)
     go t from until (inr before) = c.loop-later.invariant.same t from (omega (arith, until, before))
