@@ -1,0 +1,5 @@
+pub mod Compared
+pub mod Course
+pub mod Flips
+pub mod Follows
+pub mod Lasts
