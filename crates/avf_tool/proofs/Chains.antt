@@ -1,5 +1,5 @@
 -- The answers of the stages that commands share.
-use Rattle.std.proofs.Common.{◌≡◌, ℕ, ◌≤◌, ◌<◌, List, length, true, false, Option, None, Some, Result, Ok, Err, refl, sym, subst, arith}
+use Rattle.std.proofs.Common.{◌≡◌, ℕ, ◌≤◌, ◌<◌, List, length, true, false, None, Some, Result, Ok, Err, refl, subst, arith}
 use Rattle.std.specs.Prelude.{Vec, nat_lt}
 use Rattle.std.specs.declared.alloc.Global.{Global}
 use Rattle.std.proofs.lemmas.Bool.Decides.{nat_tests}
@@ -12,7 +12,7 @@ use Rattle.elf_load.specs.Meaning.{image_of}
 use Rattle.elf_load.specs.Refusal.{first_refusal}
 use Rattle.run_record.specs.Run.{RecordedRun}
 use Rattle.run_record.specs.Within.{record_within}
-use Rattle.avf_tool.specs.Answers.{Answer, Text, Refused, on_image, on_run, ram_size, unless_endless, unless_refused}
+use Rattle.avf_tool.specs.Answers.{Answer, Text, Refused, on_image, on_run, ram_size}
 use Rattle.avf_tool.specs.Stages.{IsText, WorkedOut}
 use Rattle.avf_tool.specs.declared.stages.TheConstants.{IMAGE_LIMIT, TOO_LONG}
 

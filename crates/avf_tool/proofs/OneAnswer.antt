@@ -1,5 +1,5 @@
 -- One answer is due to a command.
-use Rattle.std.proofs.Common.{◌≡◌, ℕ, ◌<◌, List, Bool, true, false, Option, None, Some, refl, sym, ap, ◌∙◌, inl, inr}
+use Rattle.std.proofs.Common.{◌≡◌, ℕ, List, Option, None, Some, refl, sym, ap, ◌∙◌, inl, inr}
 use Rattle.std.specs.Prelude.{◌==◌, if◌then◌else◌}
 use Rattle.std.proofs.lemmas.Bool.{cases_order}
 use Rattle.bit_field.specs.declared.places.Place.{Place}
@@ -7,7 +7,7 @@ use Rattle.bit_field.specs.declared.places.Structure.{Structure}
 use Rattle.elf_load.specs.Meaning.{image_of}
 use Rattle.run_record.specs.Run.{RecordedRun}
 use Rattle.run_record.specs.Within.{record_within}
-use Rattle.ace_class.specs.Classes.{class_number, number_of}
+use Rattle.ace_class.specs.Classes.{number_of}
 use Rattle.ace_class.specs.declared.class.Class.{Class}
 use Rattle.ace_class.specs.declared.class.Class.TheVariants.{Ace, UnAce}
 use Rattle.ace_class.specs.declared.class.Rule.{Rule}

@@ -18,7 +18,7 @@ use Rattle.ace_class.specs.declared.class.Class.TheVariants.{UnAce}
 use Rattle.ace_class.specs.declared.class.Rule.{Rule}
 use Rattle.ace_law.specs.Classes.{IsClass}
 use Rattle.ace_rules.specs.Notes.{Story, moment}
-use Rattle.avf_tool.specs.Answers.{Answer, HasClass, Text, Refused, class_due, only, place_due}
+use Rattle.avf_tool.specs.Answers.{Text, Refused, class_due, only, place_due}
 use Rattle.avf_tool.specs.Stages.{IsText}
 use Rattle.avf_tool.proofs.Chains.{text_due}
 use Rattle.avf_tool.specs.Programs.{program_of}

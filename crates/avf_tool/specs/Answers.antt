@@ -18,7 +18,6 @@ use Rattle.ace_class.specs.declared.class.Class.{Class}
 use Rattle.ace_class.specs.declared.class.Class.TheVariants.{UnAce}
 use Rattle.ace_class.specs.declared.class.Rule.{Rule}
 use Rattle.ace_law.specs.Classes.{IsClass}
-use Rattle.ace_law.specs.Moments.{Moment}
 use Rattle.avf_tool.specs.Programs.{instructions_of, program_of}
 use Rattle.avf_tool.specs.Texts.{class_text, deadness_text, run_text}
 use Rattle.avf_tool.specs.Words.{Job, OnImage, Assemble}
