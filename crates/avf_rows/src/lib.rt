@@ -6,6 +6,8 @@ mod fault_rows;
 #[cfg(test)]
 mod images;
 #[cfg(test)]
+mod query_rows;
+#[cfg(test)]
 mod rows;
 #[cfg(test)]
 mod source_rows;

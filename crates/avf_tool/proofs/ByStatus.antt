@@ -7,17 +7,23 @@ use Rattle.avf_base.specs.declared.refusal.Refusal.TheVariants.{Usage, ReadFault
 use Rattle.avf_tool.specs.Answers.{Answer, Text, Refused, answer}
 use Rattle.avf_tool.specs.Ends.{Comes, Serves, Says, Ends, ByStatus, Due, Faults, Use, status_due}
 use Rattle.avf_tool.specs.Words.{Job, told_to}
+use Rattle.avf_tool.proofs.OneAnswer.{one_answer}
 
 -- where the contents are told, what is due is what they give
 told : (job : Job) (holds : List ℕ → Option (List ℕ)) (contents : List ℕ) (due : Answer) → told_to job holds ≡ Some contents → Due job holds due
-    → answer job contents ≡ due
-told job holds contents due e h = subst (λ o. IfSome o (λ c. answer job c ≡ due)) e h
+    → answer job contents due
+told job holds contents due e h = subst (λ o. IfSome o (λ c. answer job c due)) e h
 
 same_job : (job j : Job) (holds : List ℕ → Option (List ℕ)) (contents : List ℕ) (due : Answer) → Some job ≡ Some j → told_to j holds ≡ Some contents
-    → Due job holds due → answer j contents ≡ due
+    → Due job holds due → answer j contents due
 same_job job j holds contents due s e h =
     let P : Option Job → Type 0 = λ o. IfSome o (λ i. Due i holds due) in
     told j holds contents due e (subst P s h)
+
+-- what is due to the job is this
+same_due : (job j : Job) (holds : List ℕ → Option (List ℕ)) (contents : List ℕ) (due other : Answer) → Some job ≡ Some j → told_to j holds ≡ Some contents
+    → Due job holds due → answer j contents other → due ≡ other
+same_due job j holds contents due other s e h is = one_answer j contents due other (same_job job j holds contents due s e h) is
 
 same_text : (a b : List ℕ) (old new : Option (List ℕ)) → Text a ≡ Text b → Grows old new a → Grows old new b
 same_text a b old new e h = let e' : a ≡ b = cc in subst (Grows old new) e' h
@@ -27,11 +33,11 @@ no_command holds shelf out err h = record {
   usage = (λ _. refl, λ _. refl);
   read_fault = λ e. absurd (omega (arith, e));
   write_fault = λ e. absurd (omega (arith, e));
-  due = λ job contents s e. search rules;
+  due = λ job contents due s e. search rules;
   text = λ job contents text z. absurd (omega (arith, z));
   nothing = λ _ _. h;
   silent = λ e. absurd (omega (arith, e));
-  complete = λ job contents s. search rules;
+  complete = λ job contents due s. search rules;
 }
 
 -- a refusal that the contents give
@@ -42,11 +48,11 @@ refused job holds shelf out err r a b c d h n = record {
   usage = (λ e. absurd (a e), λ e. search rules);
   read_fault = λ e. absurd (b e);
   write_fault = λ e. absurd (c e);
-  due = λ j contents s e. inl (sym (ap status_due (same_job job j holds contents (Refused r) s e h)));
+  due = λ j contents due s e is. inl (ap status_due (same_due job j holds contents (Refused r) due s e h is));
   text = λ j contents text z. absurd (d z);
   nothing = λ _ _. n;
   silent = λ e. absurd (d e);
-  complete = λ j contents s e _ _. inl (sym (ap status_due (same_job job j holds contents (Refused r) s e h)));
+  complete = λ j contents due s e is _ _. inl (ap status_due (same_due job j holds contents (Refused r) due s e h is));
 }
 
 read_failed : (job : Job) (holds : List ℕ → Option (List ℕ)) (shelf : Faults) (out err : Use) → Comes (Some job) holds shelf out ReadFault
@@ -55,11 +61,11 @@ read_failed job holds shelf out err h = record {
   usage = (λ e. absurd (omega (arith, e)), λ e. search rules);
   read_fault = λ _. h.0;
   write_fault = λ e. absurd (omega (arith, e));
-  due = λ j contents s e. inr (inl refl);
+  due = λ j contents due s e _. inr (inl refl);
   text = λ j contents text z. absurd (omega (arith, z));
   nothing = λ _ _. h.1;
   silent = λ e. absurd (omega (arith, e));
-  complete = λ j contents s e calm _. absurd (calm h.0);
+  complete = λ j contents due s e _ calm _. absurd (calm h.0);
 }
 
 write_failed : (job : Job) (holds : List ℕ → Option (List ℕ)) (shelf : Faults) (out err : Use) → Comes (Some job) holds shelf out WriteFault
@@ -68,11 +74,11 @@ write_failed job holds shelf out err h = record {
   usage = (λ e. absurd (omega (arith, e)), λ e. search rules);
   read_fault = λ e. absurd (omega (arith, e));
   write_fault = λ _. h.2;
-  due = λ j contents s e. inr (inr (inl refl));
+  due = λ j contents due s e _. inr (inr (inl refl));
   text = λ j contents text z. absurd (omega (arith, z));
   nothing = λ _ e. absurd (e refl);
   silent = λ e. absurd (omega (arith, e));
-  complete = λ j contents s e _ calm. absurd (calm h.2);
+  complete = λ j contents due s e _ _ calm. absurd (calm h.2);
 }
 
 no_memory : (job : Job) (holds : List ℕ → Option (List ℕ)) (shelf : Faults) (out err : Use) → out.new ≡ out.old → ByStatus (Some job) holds shelf out err 8
@@ -80,11 +86,11 @@ no_memory job holds shelf out err h = record {
   usage = (λ e. absurd (omega (arith, e)), λ e. search rules);
   read_fault = λ e. absurd (omega (arith, e));
   write_fault = λ e. absurd (omega (arith, e));
-  due = λ j contents s e. inr (inr (inr refl));
+  due = λ j contents due s e _. inr (inr (inr refl));
   text = λ j contents text z. absurd (omega (arith, z));
   nothing = λ _ _. h;
   silent = λ e. absurd (omega (arith, e));
-  complete = λ j contents s e _ _. inr refl;
+  complete = λ j contents due s e _ _ _. inr refl;
 }
 
 printed : (job : Job) (holds : List ℕ → Option (List ℕ)) (shelf : Faults) (out err : Use) (text : List ℕ) → Due job holds (Text text)
@@ -93,11 +99,11 @@ printed job holds shelf out err text h g n = record {
   usage = (λ e. absurd (omega (arith, e)), λ e. search rules);
   read_fault = λ e. absurd (omega (arith, e));
   write_fault = λ e. absurd (omega (arith, e));
-  due = λ j contents s e. inl (sym (ap status_due (same_job job j holds contents (Text text) s e h)));
-  text = λ j contents t _ s e a. same_text text t out.old out.new (sym (same_job job j holds contents (Text text) s e h) ∙ a) g;
+  due = λ j contents due s e is. inl (ap status_due (same_due job j holds contents (Text text) due s e h is));
+  text = λ j contents t _ s e a. same_text text t out.old out.new (same_due job j holds contents (Text text) (Text t) s e h a) g;
   nothing = λ e. absurd (e refl);
   silent = λ _. n;
-  complete = λ j contents s e _ _. inl (sym (ap status_due (same_job job j holds contents (Text text) s e h)));
+  complete = λ j contents due s e is _ _. inl (ap status_due (same_due job j holds contents (Text text) due s e h is));
 }
 
 ended : (asked : Option Job) (holds : List ℕ → Option (List ℕ)) (shelf : Faults) (out err : Use) (end : Result (Unit {0}) Refusal)

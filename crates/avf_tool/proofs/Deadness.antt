@@ -6,13 +6,13 @@ use Rattle.avf_base.specs.declared.refusal.Refusal.{Refusal}
 use Rattle.avf_base.specs.declared.refusal.Refusal.TheVariants.{Usage, ReadFault, BadImage, NoEnd, NoSuchBit, WriteFault, OutOfMemory, BadSource}
 use Rattle.rv_isa.specs.Runs.{ProgramTrace}
 use Rattle.run_record.specs.Run.{RecordedRun}
-use Rattle.avf_tool.specs.Answers.{Text}
+use Rattle.avf_tool.specs.Answers.{Text, only}
 use Rattle.avf_tool.specs.Programs.{instructions_of}
 use Rattle.avf_tool.specs.Stages.{IsDeadText, IsText}
 use Rattle.avf_tool.specs.Texts.{deadness_text}
 
 pub dead_told : (run : RecordedRun) (trace : ProgramTrace) (told : Result (Vec ℕ Global) Refusal) → instructions_of run ≡ trace.entries → IsDeadText trace told
-    → IsText (Text (deadness_text (instructions_of run))) told
+    → IsText (only (Text (deadness_text (instructions_of run)))) told
 dead_told run trace (Ok text) e h = ap (λ l. Text (deadness_text l)) e ∙ ap Text (sym h)
 dead_told run trace (Err OutOfMemory) e h = tt
 dead_told run trace (Err Usage) e h = absurd h

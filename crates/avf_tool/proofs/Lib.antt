@@ -9,3 +9,7 @@ mod Runs
 mod Sources
 mod Traces
 mod Serving
+mod StructureNames
+mod OneAnswer
+mod Queries
+mod ShortWords

@@ -9,7 +9,7 @@ use Rattle.rv_isa.specs.Effects.{retired_at}
 use Rattle.rv_isa.specs.Runs.{IsTrace, ProgramTrace, trace_at}
 use Rattle.run_record.specs.Run.{RecordedRun}
 use Rattle.run_log.specs.Answers.{IsProgram}
-use Rattle.avf_tool.specs.Programs.{instructions_of}
+use Rattle.avf_tool.specs.Programs.{instructions_of, program_of}
 
 some_end : (o : Option End) (end : End) → o ≡ Some end → o ≡ None → ⊥
 some_end o end e h = absurd cc
@@ -43,10 +43,25 @@ one_length image clocks k n last end running ends going over =
       | inr (inr behind) ↦ absurd (some_end (trace_at image clocks n).stop end over (running n behind))
     ]
 
+same_length : (run : RecordedRun) (trace : ProgramTrace) → IsProgram run → IsTrace run.image run.clocks trace → length trace.entries ≡ run.instructions
+same_length run trace is h =
+    one_length run.image run.clocks (length trace.entries) run.instructions trace.end run.end h.running h.ends is.running is.ends
+
 pub traced : (run : RecordedRun) (trace : ProgramTrace) → IsProgram run → IsTrace run.image run.clocks trace → instructions_of run ≡ trace.entries
 traced run trace is h =
-    let n : length trace.entries ≡ run.instructions =
-    one_length run.image run.clocks (length trace.entries) run.instructions trace.end run.end h.running h.ends is.running is.ends in
+    let n : length trace.entries ≡ run.instructions = same_length run trace is h in
     ap (λ k. map (λ i. retired_at run.image (trace_at run.image run.clocks i)) (range_with_len 0 k)) (sym n)
     ∙ map_range (λ i. retired_at run.image (trace_at run.image run.clocks i)) trace.entries 0
     (λ i l. h.retired i l ∙ ap (λ k. Some (retired_at run.image (trace_at run.image run.clocks k))) (omega arith))
+
+parts_are : (run : RecordedRun) (trace : ProgramTrace) → instructions_of run ≡ trace.entries → run.output ≡ trace.output → run.end ≡ trace.end
+    → program_of run ≡ trace
+parts_are run trace entries output end = rw (entries, output, end) refl
+
+-- the trace is the instruction set's run
+pub program_is : (run : RecordedRun) (trace : ProgramTrace) → IsProgram run → IsTrace run.image run.clocks trace → program_of run ≡ trace
+program_is run trace is h =
+    let n : length trace.entries ≡ run.instructions = same_length run trace is h in
+    parts_are run trace (traced run trace is h)
+    (sym is.puts ∙ ap (λ k. (trace_at run.image run.clocks k).log.output) (sym n) ∙ h.puts)
+    (some_is run.end trace.end (sym is.ends ∙ ap (λ k. (trace_at run.image run.clocks k).stop) (sym n) ∙ h.ends))

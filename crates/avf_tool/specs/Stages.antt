@@ -62,21 +62,21 @@ IsDeadText trace (Err OutOfMemory) = ⊤
 IsDeadText trace (Err refusal) = ⊥
 
 -- a refusal that was worked out of what is given, or want of memory
-abbrev pub WorkedOut : Cause → Answer → Refusal → Type 0
-WorkedOut ByContents due refusal = due ≡ Refused refusal
+abbrev pub WorkedOut : Cause → (Answer → Type 0) → Refusal → Type 0
+WorkedOut ByContents due refusal = due (Refused refusal)
 WorkedOut Free due refusal = ⊤
 WorkedOut ByWords due refusal = ⊥
 WorkedOut ByShelf due refusal = ⊥
 WorkedOut ByOut due refusal = ⊥
 
 -- the text that is due, or the refusal that is
-abbrev pub IsText : Answer → Result (Vec ℕ Global) Refusal → Type 0
-IsText due (Ok text) = due ≡ Text text.items
+abbrev pub IsText : (Answer → Type 0) → Result (Vec ℕ Global) Refusal → Type 0
+IsText due (Ok text) = due (Text text.items)
 IsText due (Err refusal) = WorkedOut (cause_of refusal) due refusal
 
 -- How a command is refused. `known` is what its file holds, where that is told, and the two numbers are the shelf's faults.
 abbrev pub Performed : Cause → Job → Option (List ℕ) → ℕ → ℕ → Refusal → Type 0
-Performed ByContents job known before now refusal = IfSome known (λ contents. answer job contents ≡ Refused refusal)
+Performed ByContents job known before now refusal = IfSome known (λ contents. answer job contents (Refused refusal))
 Performed ByShelf job known before now refusal = Rose before now
 Performed Free job known before now refusal = ⊤
 Performed ByWords job known before now refusal = ⊥
@@ -84,5 +84,5 @@ Performed ByOut job known before now refusal = ⊥
 
 -- what a command gives
 abbrev pub Answers : Job → Option (List ℕ) → ℕ → ℕ → Result (Vec ℕ Global) Refusal → Type 0
-Answers job known before now (Ok text) = IfSome known (λ contents. answer job contents ≡ Text text.items)
+Answers job known before now (Ok text) = IfSome known (λ contents. answer job contents (Text text.items))
 Answers job known before now (Err refusal) = Performed (cause_of refusal) job known before now refusal

@@ -6,6 +6,9 @@ use Rattle.avf_base.specs.declared.end.End.{End}
 use Rattle.avf_base.specs.declared.end.End.TheVariants.{Exit, Trap}
 use Rattle.rv_isa.specs.declared.effect.Retired.{Retired}
 use Rattle.avf_tool.specs.declared.texts.DeadCounts.{DeadCounts}
+use Rattle.ace_class.specs.Classes.{number_of}
+use Rattle.ace_class.specs.declared.class.Class.{Class}
+use Rattle.ace_class.specs.declared.class.Class.TheVariants.{Ace, UnAce}
 use Rattle.dead_class.specs.Classes.{classes_of, is_class}
 use Rattle.dead_class.specs.declared.class.DeadClass.{DeadClass}
 use Rattle.dead_class.specs.declared.class.DeadClass.TheVariants.{Needed, Nop, FddReg, TddReg, FddMem, TddMem}
@@ -68,3 +71,8 @@ dead_text counts = concat (needed_lines counts ∷ register_lines counts ∷ mem
 -- the same of these instructions
 abbrev pub deadness_text : List Retired → List ℕ
 deadness_text entries = dead_text (dead_counts (length entries) (classes_of entries))
+
+-- `query`: the class of a bit, un-ACE with the number of its rule
+abbrev pub class_text : Class → List ℕ
+class_text Ace = codes "ace\n"
+class_text (UnAce rule) = concat (codes "unace U" ∷ decimal (number_of rule) ∷ codes "\n" ∷ [])

@@ -1,13 +1,19 @@
 -- Which words are which command.
-use Rattle.std.specs.Prelude.{◌≤◌, ⊤, ℕ, List, [], ◌∷◌, length, Option, None, Some, String, string_bytes, map, codes, bytes_eq, nat_lt, ◌==◌, if◌then◌else◌}
+use Rattle.std.specs.Prelude.{◌≤◌, ◌^◌, ◌-◌, ⊤, ℕ, List, [], ◌∷◌, length, Option, None, Some, String, string_bytes, map, codes, bytes_eq}
+use Rattle.std.specs.Prelude.{nat_lt, ◌==◌, if◌then◌else◌}
+use Rattle.std.specs.List.{find}
 use Rattle.std.specs.Option.{option_and_then, option_map}
 use Rattle.std.specs.declared.alloc.Global.{Global}
 use Rattle.bit_field.specs.Shapes.{IsShape, plain}
+use Rattle.bit_field.specs.Names.{name_of}
+use Rattle.bit_field.specs.declared.places.Structure.{Structure}
 use Rattle.bit_field.specs.declared.shapes.Shape.{Shape}
+use Rattle.ace_class.specs.Counts.{structures}
 use Rattle.run_record.specs.declared.recorded.TheConstants.{LONGEST_RUN}
 use Rattle.avf_tool.specs.Numbers.{number}
+use Rattle.avf_tool.specs.declared.command.BitInCycle.{BitInCycle}
 use Rattle.avf_tool.specs.declared.command.Task.{Task}
-use Rattle.avf_tool.specs.declared.command.Task.TheVariants.{Run, Dead}
+use Rattle.avf_tool.specs.declared.command.Task.TheVariants.{Run, Dead, Query}
 
 -- what is told of the run of an image: its file's name, the machine, and how many cycles the run may take
 pub record ImageJob : Type 0 where
@@ -32,11 +38,28 @@ abbrev pub alone : Task → List (List ℕ) → Option Task
 alone task [] = Some task
 alone task (word ∷ words) = None
 
+-- the structure of a name, if there is one
+abbrev pub structure_of : List ℕ → Option Structure
+structure_of name = find (λ s. bytes_eq name (name_of s)) structures
+
+-- BIT, CYCLE: below 2^32
+abbrev pub word_number : List ℕ → Option ℕ
+word_number text = number 0 (2 ^ 32 - 1) text
+
+-- STRUCT BIT CYCLE: any word that isn't empty, and two numbers
+abbrev pub bit_words : List (List ℕ) → Option BitInCycle
+bit_words (name ∷ bit ∷ cycle ∷ []) =
+    if nat_lt 0 (length name)
+    then option_and_then (λ b. option_map (λ c. record { structure = structure_of name; bit = b; cycle = c }) (word_number cycle)) (word_number bit)
+    else None
+bit_words _ = None
+
 -- the commands `NAME IMAGE BUDGET ..`, one line each
 abbrev pub tasks : List TaskWords
 tasks =
     record { name = codes "run"; reads = alone Run }
     ∷ record { name = codes "dead"; reads = alone Dead }
+    ∷ record { name = codes "query"; reads = λ words. option_map Query (bit_words words) }
     ∷ []
 
 -- what the first of these tasks with a name makes of the words

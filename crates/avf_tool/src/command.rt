@@ -1,14 +1,23 @@
 // The words of a command.
-ghost use Rattle.std.specs.Prelude.{◌≡◌, MatchOption, IfSome, Some, None};
+ghost use Rattle.std.specs.Prelude.{◌≡◌, MatchOption, IfSome, Some, None, option_map};
 ghost use Rattle.bit_field.specs.Shapes.{IsShape};
 ghost use Rattle.avf_tool.specs.Words as asked;
-ghost use Rattle.avf_tool.specs.Words.{IsDoable, asm_job, command_of, command_on, task_in, tasks, texts, with_job};
+ghost use Rattle.avf_tool.specs.Words.{IsDoable, asm_job, bit_words, command_of, command_on, structure_of, task_in, tasks, texts, with_job, word_number};
 ghost use Rattle.avf_tool.specs.Jobs.{job_of};
 
 use crate::numbers::number;
 use crate::shape::shape;
-use bit_field::{Shape, plain_shape};
+use bit_field::{Shape, Structure, plain_shape, structure_named};
 use run_log::LONGEST_RUN;
+
+/// A bit of a structure, counted from 0, and a cycle of the run, counted from 0. There is no structure where none has the name that
+/// was asked for.
+#[derive(Clone, Copy, Debug, PartialEq, Eq)]
+pub struct BitInCycle {
+    pub structure: Option<Structure>,
+    pub bit: u32,
+    pub cycle: u32,
+}
 
 /// What a command tells of the run of an image.
 #[derive(Clone, Copy, Debug, PartialEq, Eq)]
@@ -17,6 +26,8 @@ pub enum Task {
     Run,
     /// How many of its instructions are of each class.
     Dead,
+    /// The class of a bit in a cycle.
+    Query(BitInCycle),
 }
 
 /// What is told of the run of an image: the machine's shape, the name of the file that has the image, how many cycles the run
@@ -48,6 +59,50 @@ fn alone(words: &[String], task: Task) -> Option<Task>
     }
 }
 
+// The structure of this name, if there is one.
+#[tactic(auto, using(crate::proofs::StructureNames::named))]
+fn structure_of(name: &str) -> Option<Structure>
+    ensures { result ≡ structure_of name.now }
+{
+    structure_named(name)
+}
+
+// BIT, CYCLE: below 2^32.
+fn word_number(text: &str) -> Option<u32>
+    ensures { result ≡ word_number text.now }
+{
+    Some(number(text, 0, u64::from(u32::MAX))? as u32)
+}
+
+// STRUCT BIT CYCLE.
+fn bit_words(words: &[String]) -> Option<BitInCycle>
+    ensures { result ≡ bit_words (texts words.now) }
+{
+    match words {
+        [name, bit, cycle] => {
+            if name.is_empty() {
+                return None;
+            }
+            let structure = structure_of(name.as_str());
+            let bit = word_number(bit.as_str())?;
+            let cycle = word_number(cycle.as_str())?;
+            Some(BitInCycle {
+                structure,
+                bit,
+                cycle,
+            })
+        }
+        _ => None,
+    }
+}
+
+// `query` with the words behind IMAGE and BUDGET.
+fn query_words(words: &[String]) -> Option<Task>
+    ensures { result ≡ option_map Task.Query (bit_words (texts words.now)) }
+{
+    Some(Task::Query(bit_words(words)?))
+}
+
 // The task of this name, with the words behind IMAGE and BUDGET. One line each.
 fn task_named(name: &str, words: &[String]) -> Option<Task>
     ensures { result ≡ task_in tasks name.now (texts words.now) }
@@ -55,6 +110,7 @@ fn task_named(name: &str, words: &[String]) -> Option<Task>
     match name {
         "run" => alone(words, Task::Run),
         "dead" => alone(words, Task::Dead),
+        "query" => query_words(words),
         _ => None,
     }
 }

@@ -3,7 +3,7 @@ ghost use Rattle.std.specs.Prelude.{◌≡◌, ◌≤◌, List, ℕ, length, IfO
 ghost use Rattle.avf_base.specs.Refusals.{ByContents, cause_of};
 ghost use Rattle.avf_base.specs.declared.refusal.Refusal.TheVariants.{BadImage, BadSource};
 ghost use Rattle.bit_field.specs.Shapes.{IsShape};
-ghost use Rattle.avf_tool.specs.Answers.{ram_size, source_answer};
+ghost use Rattle.avf_tool.specs.Answers.{only, ram_size, source_answer};
 ghost use Rattle.run_log.specs.Answers.{IsProgram};
 ghost use Rattle.avf_tool.specs.Stages.{IsLoaded, IsRead, IsText, Ran, Traced};
 
@@ -77,7 +77,7 @@ pub fn read_source<H: Shelf>(alloc: Global, shelf: &mut H, name: &str) -> Result
 /// The file of a source, or its first fault.
 #[tactic(auto, using(crate::proofs::Sources::lemmas))]
 pub fn assemble_source(alloc: Global, source: &[u8]) -> Result<Vec<u8>, Refusal>
-    ensures { IsText (source_answer source.now) result }
+    ensures { IsText (only (source_answer source.now)) result }
 {
     match assemble(alloc, source) {
         Ok(file) => Ok(file),

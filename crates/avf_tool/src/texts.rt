@@ -3,6 +3,7 @@ ghost use Rattle.std.specs.Prelude.{◌≡◌, IfOk, string_bytes};
 ghost use Rattle.avf_tool.specs.Texts.{end_number, end_word, output_text};
 ghost use Rattle.avf_tool.specs.Texts as texts;
 
+use ace_class::Class;
 use avf_base::End;
 use dead_class::{DeadClass, DeadTable};
 use run_log::Recorded;
@@ -107,4 +108,17 @@ pub fn dead_text(alloc: Global, counts: &DeadCounts) -> Result<String, AllocErro
     let registers = register_lines(alloc, counts)?;
     let memory = memory_lines(alloc, counts)?;
     format!(in alloc; "{needed}{registers}{memory}")
+}
+
+/// The text of `query`: the class of a bit.
+pub fn class_text(alloc: Global, class: Class) -> Result<String, AllocError>
+    ensures { IfOk result (λ text. string_bytes text ≡ texts.class_text class) }
+{
+    match class {
+        Class::Ace => String::from_str(alloc, "ace\n"),
+        Class::UnAce(rule) => {
+            let number = rule.number();
+            format!(in alloc; "unace U{number}\n")
+        }
+    }
 }
