@@ -28,4 +28,3 @@ mod FetchedPlaces
 mod FetchedMasks
 mod FetchedClasses
 mod KnownMoments
-mod ClassNumbers
