@@ -1,8 +1,11 @@
-/* Preloaded into the program: refuses the request for memory whose number REFUSE names, counted from 1, and no other. */
+/* Preloaded into the program: refuses the request for memory whose number REFUSE names, counted from 1, and no other, and then makes the
+   file that REFUSED names. */
 #define _GNU_SOURCE
 #include <dlfcn.h>
 #include <errno.h>
+#include <fcntl.h>
 #include <stdlib.h>
+#include <unistd.h>
 
 static unsigned long asked, refused;
 
@@ -12,7 +15,12 @@ static int refuses(void)
         const char *number = getenv("REFUSE");
         refused = number ? strtoul(number, 0, 10) : (unsigned long)-1;
     }
-    return ++asked == refused;
+    if (++asked != refused)
+        return 0;
+    const char *mark = getenv("REFUSED");
+    if (mark)
+        close(open(mark, O_CREAT | O_WRONLY, 0600));
+    return 1;
 }
 
 void *malloc(size_t size)
