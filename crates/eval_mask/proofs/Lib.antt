@@ -7,6 +7,7 @@ pub mod MaskLoops
 pub mod Masked
 pub mod OwnChange
 pub mod Puts
+pub mod Rows
 pub mod Seeming
 pub mod UnderLog
 pub mod UnreadBits

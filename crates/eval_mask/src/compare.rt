@@ -4,7 +4,7 @@ ghost use Rattle.need_pass.specs.Tables.{byte_need, reg_need};
 ghost use Rattle.rv_isa.specs.Architecture.{state_of};
 ghost use Rattle.eval_mask.specs.Aftermaths.{memory_after, output_after, registers_after, state_after, written};
 ghost use Rattle.eval_mask.specs.Agreement.{Agree};
-ghost use Rattle.eval_mask.specs.Compared.{SameByte, SameBytes, SameCovered, SameNext, SameRegister, SameRegisters, SameRun, SameWhere, first_of, second_of};
+ghost use Rattle.eval_mask.specs.Compared.{SameByte, SameBytes, SameCovered, SameNext, SameRegister, SameRegisters, SameRun, SameStored, SameWhere, SameWritten, first_of, second_of};
 
 use crate::completing::{Aftermath, Store, Write, register_over};
 use avf_base::End;
@@ -70,7 +70,34 @@ fn same_register(
     )
 }
 
-/// Whether all registers are the same where they are needed. Only a register that is written can differ.
+fn same_write(a: &Write, b: &Write) -> bool
+    ensures { IsTrue result ↔ (a.now ≡ b.now) }
+{
+    *a == *b
+}
+
+/// Whether two writes, one of each aftermath, are the same, or the registers that they write are the same where they are needed.
+#[tactic(auto, using(crate::proofs::Differences::registers_told))]
+fn same_written(
+    arch: &Arch<'_>,
+    oldest: &Write,
+    needs: &NeedTable,
+    at: u32,
+    left: &Aftermath,
+    other: &Aftermath,
+    a: &Write,
+    b: &Write,
+) -> bool
+    requires { at ≤ needs.now.count }
+    ensures same { IsTrue result → SameWritten needs.now at (registers_after left.now (written oldest.now (slice_index arch.now.registers))) (registers_after other.now (written oldest.now (slice_index arch.now.registers))) a.now b.now }
+    ensures all { SameRegisters needs.now at (registers_after left.now (written oldest.now (slice_index arch.now.registers))) (registers_after other.now (written oldest.now (slice_index arch.now.registers))) → IsTrue result }
+{
+    same_write(a, b)
+        || same_register(arch, oldest, needs, at, left, other, a.rd)
+            && same_register(arch, oldest, needs, at, left, other, b.rd)
+}
+
+/// Whether all registers are the same where they are needed. Only a register that is written differently can differ.
 #[tactic(auto, using(crate::proofs::Differences::all_registers))]
 fn same_registers(
     arch: &Arch<'_>,
@@ -83,12 +110,34 @@ fn same_registers(
     requires { at ≤ needs.now.count }
     ensures { IsTrue result ↔ SameRegisters needs.now at (registers_after left.now (written oldest.now (slice_index arch.now.registers))) (registers_after other.now (written oldest.now (slice_index arch.now.registers))) }
 {
-    same_register(arch, oldest, needs, at, left, other, left.first.rd)
-        && same_register(arch, oldest, needs, at, left, other, left.below.write.rd)
-        && same_register(arch, oldest, needs, at, left, other, left.above.write.rd)
-        && same_register(arch, oldest, needs, at, left, other, other.first.rd)
-        && same_register(arch, oldest, needs, at, left, other, other.below.write.rd)
-        && same_register(arch, oldest, needs, at, left, other, other.above.write.rd)
+    same_written(
+        arch,
+        oldest,
+        needs,
+        at,
+        left,
+        other,
+        &left.above.write,
+        &other.above.write,
+    ) && same_written(
+        arch,
+        oldest,
+        needs,
+        at,
+        left,
+        other,
+        &left.below.write,
+        &other.below.write,
+    ) && same_written(
+        arch,
+        oldest,
+        needs,
+        at,
+        left,
+        other,
+        &left.first,
+        &other.first,
+    )
 }
 
 /// Whether the byte at a byte address is the same where it is needed.
@@ -184,7 +233,33 @@ fn same_covered(
     }
 }
 
-/// Whether all bytes are the same where they are needed. Only a byte that is stored can differ.
+fn same_store(a: &Option<Store>, b: &Option<Store>) -> bool
+    ensures { IsTrue result ↔ (a.now ≡ b.now) }
+{
+    *a == *b
+}
+
+/// Whether two stores, one of each aftermath, are the same, or the bytes that they write are the same where they are needed.
+#[tactic(auto, using(crate::proofs::Differences::bytes_told))]
+fn same_overwritten(
+    arch: &Arch<'_>,
+    needs: &NeedTable,
+    at: u32,
+    left: &Aftermath,
+    other: &Aftermath,
+    a: &Option<Store>,
+    b: &Option<Store>,
+) -> bool
+    requires { at ≤ needs.now.count }
+    ensures same { IsTrue result → SameStored needs.now at (memory_after left.now (state_of arch.now).memory) (memory_after other.now (state_of arch.now).memory) a.now b.now }
+    ensures all { SameBytes needs.now at (memory_after left.now (state_of arch.now).memory) (memory_after other.now (state_of arch.now).memory) → IsTrue result }
+{
+    same_store(a, b)
+        || same_covered(arch, needs, at, left, other, a)
+            && same_covered(arch, needs, at, left, other, b)
+}
+
+/// Whether all bytes are the same where they are needed. Only a byte that is stored differently can differ.
 #[tactic(auto, using(crate::proofs::Differences::all_bytes))]
 fn same_bytes(
     arch: &Arch<'_>,
@@ -196,10 +271,23 @@ fn same_bytes(
     requires { at ≤ needs.now.count }
     ensures { IsTrue result ↔ SameBytes needs.now at (memory_after left.now (state_of arch.now).memory) (memory_after other.now (state_of arch.now).memory) }
 {
-    same_covered(arch, needs, at, left, other, &left.below.store)
-        && same_covered(arch, needs, at, left, other, &left.above.store)
-        && same_covered(arch, needs, at, left, other, &other.below.store)
-        && same_covered(arch, needs, at, left, other, &other.above.store)
+    same_overwritten(
+        arch,
+        needs,
+        at,
+        left,
+        other,
+        &left.below.store,
+        &other.below.store,
+    ) && same_overwritten(
+        arch,
+        needs,
+        at,
+        left,
+        other,
+        &left.above.store,
+        &other.above.store,
+    )
 }
 
 fn same_end(a: Option<End>, b: Option<End>) -> bool

@@ -2,7 +2,6 @@
 ghost use Rattle.std.specs.Prelude.{◌≡◌, ℕ, ◌<◌};
 ghost use Rattle.rv_table.specs.Accesses as accesses;
 ghost use Rattle.rv_table.specs.Actions.{next_address};
-ghost use Rattle.rv_table.specs.Effects as effects;
 ghost use Rattle.rv_isa.specs.Architecture.{state_of};
 ghost use Rattle.rv_isa.specs.Instruction as step;
 ghost use Rattle.rv_isa.specs.Instruction.{action_in};
@@ -15,8 +14,8 @@ ghost use Rattle.eval_mask.specs.Aftermaths.{memory_after, registers_after, stor
 use avf_base::End;
 use elf_load::Image;
 use pipe_latch::{ExMem, Forwarded, IdEx, MemWb, execute, operand};
-use rv_isa::Arch;
-use rv_table::{Action, LoadKind, StoreKind, loaded, with_counter};
+use rv_isa::{Arch, byte_put, end_of, written_register};
+use rv_table::{Action, LoadKind, StoreKind, asked, loaded, next_address, with_counter};
 
 /// A write of a register; register 0 is none.
 #[derive(Clone, Copy, PartialEq, Eq, Debug)]
@@ -160,15 +159,6 @@ fn given(arch: &Arch<'_>, under: &Option<Store>, action: &Action) -> u32
     }
 }
 
-fn written_register(action: &Action) -> u8
-    ensures { result ≡ effects.written_register action.now }
-{
-    match *action {
-        Action::Writes { rd, .. } | Action::Loads { rd, .. } => rd,
-        _ => 0,
-    }
-}
-
 /// The store that an action makes; one outside RAM is dropped.
 fn store_by(image: &Image, action: &Action) -> Option<Store>
     ensures { result ≡ spec.store_by image.now action.now }
@@ -183,26 +173,6 @@ fn store_by(image: &Image, action: &Action) -> Option<Store>
             address,
             value,
         }),
-        _ => None,
-    }
-}
-
-fn byte_put(action: &Action) -> Option<u8>
-    ensures { result ≡ effects.byte_put action.now }
-{
-    match *action {
-        Action::Puts(value) => Some((value % 256) as u8),
-        _ => None,
-    }
-}
-
-/// How an action ends the run.
-pub fn end_of(action: &Action) -> Option<End>
-    ensures { result ≡ step.end_of action.now }
-{
-    match *action {
-        Action::Exits(value) => Some(End::Exit((value % 256) as u8)),
-        Action::Traps(cause) => Some(End::Trap(cause)),
         _ => None,
     }
 }
@@ -241,19 +211,23 @@ fn operand_held(rs: u8, held: u32, m: &ExMem, w: &MemWb, awaited: u32) -> u32
 }
 
 /// What the instruction in ID/EX does with the operands a and b.
-#[tactic(auto, using(crate::proofs::Completed::executed_action))]
+#[tactic(auto, using(crate::proofs::Completed::executed_action), unfolding(rv_table::specs::Actions::action, rv_table::specs::Actions::judged, rv_table::specs::Actions::judged_by))]
 fn decoded_action(d: &IdEx, a: u32, b: u32, image: &Image) -> Action
     ensures { result ≡ action_in image.now (op_of_latch d.now) d.now.pc a b }
 {
-    execute(d, a, b, image).latch.action()
+    let action = asked(&d.instruction(), d.pc, a, b);
+    match action {
+        Action::Loads { address, .. } => action.judged(image.word_in_ram(address / 4), false),
+        Action::Stores { .. } => execute(d, a, b, image).latch.action(),
+        _ => action,
+    }
 }
 
 /// The word address that comes after the instruction in ID/EX.
-#[tactic(auto, unfolding(pipe_latch::specs::Execution::next_of))]
-fn decoded_next(d: &IdEx, a: u32, b: u32, image: &Image) -> u32
+fn decoded_next(d: &IdEx, a: u32, b: u32) -> u32
     ensures { result ≡ next_address (op_of_latch d.now) d.now.pc a b }
 {
-    execute(d, a, b, image).next
+    next_address(&d.instruction(), d.pc, a, b)
 }
 
 /// What MEM/WB, EX/MEM and a reached ID/EX leave once they are completed over the memory of `arch`. `npc` is the word address that
@@ -293,7 +267,7 @@ pub fn completed(
         first,
         below,
         above: change_of(arch, &below.store, &action),
-        pc: decoded_next(d, a, b, arch.image()),
+        pc: decoded_next(d, a, b),
         end: end_of(&action),
     }
 }

@@ -12,11 +12,11 @@ ghost use Rattle.eval_mask.specs.LatchMasks as masks;
 ghost use Rattle.eval_mask.specs.LatchMasks.{HasBits, IsDecodedMasked, IsExecutedMasked, IsLatchMask, IsMasked, IsResultMasked, Latches, base_of, is_in};
 
 use crate::compare::agree;
-use crate::completing::{Aftermath, Change, Write, completed, end_of, executed_change};
+use crate::completing::{Aftermath, Change, Write, completed, executed_change};
 use bit_field::{EX_MEM_BITS, ID_EX_BITS, MEM_WB_BITS, Struck};
 use need_pass::NeedTable;
 use pipe_latch::{ExMem, ExMemField, IdEx, IdExField, MemWb};
-use rv_isa::Arch;
+use rv_isa::{Arch, end_of};
 use rv_table::{Action, is_clocked};
 
 /// The logically masked bits of the latches: a bit is set exactly where flipping it leaves an outcome that agrees, for all that the
