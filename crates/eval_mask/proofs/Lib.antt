@@ -1,6 +1,7 @@
 pub mod Agreeing
 pub mod Completed
 pub mod Differences
+pub mod Doings
 pub mod EffectsTold
 pub mod Fields
 pub mod MaskLoops

@@ -12,7 +12,8 @@ use need_pass::NeedTable;
 use rv_isa::Arch;
 use rv_table::StoreKind;
 
-fn same_word(mask: u32, a: u32, b: u32) -> bool
+/// Whether two words are the same in the bits of a mask.
+pub fn same_word(mask: u32, a: u32, b: u32) -> bool
     ensures { IsTrue result ↔ SameWhere 32 mask a b }
 {
     mask & (a ^ b) == 0

@@ -42,6 +42,13 @@ pub struct Change {
     pub end: Option<End>,
 }
 
+/// What the instruction in ID/EX does, and the word address that comes after it.
+#[derive(Clone, Copy, PartialEq, Eq, Debug)]
+pub struct Doing {
+    pub action: Action,
+    pub next: u32,
+}
+
 /// What completed instructions leave.
 #[derive(Clone, Copy, PartialEq, Eq, Debug)]
 pub struct Aftermath {
@@ -230,6 +237,41 @@ fn decoded_next(d: &IdEx, a: u32, b: u32) -> u32
     next_address(&d.instruction(), d.pc, a, b)
 }
 
+/// Whether ID/EX is completed: it is occupied, at the word address that comes next, and what EX/MEM does doesn't end the run.
+pub fn is_completed(m: &ExMem, d: &IdEx, npc: u32) -> bool
+    ensures { result ≡ spec.is_completed m.now d.now npc }
+{
+    d.valid && (end_of(&m.action()).is_none() && d.pc == npc)
+}
+
+/// What the instruction in ID/EX does. `awaited` is the value that EX/MEM writes, `issued` the number of instructions before it.
+#[tactic(auto, unfolding(crate::specs::Aftermaths::doing_of))]
+pub fn doing_of(w: &MemWb, m: &ExMem, d: &IdEx, awaited: u32, issued: u32, image: &Image) -> Doing
+    ensures { (memory : ℕ → ℕ) → awaited ≡ step.given image.now (action_of m.now) memory → result ≡ spec.doing_of image.now w.now m.now d.now memory issued }
+{
+    let a = operand_held(d.rs1, d.a, m, w, awaited);
+    let held = operand_held(d.rs2, d.b, m, w, awaited);
+    let b = with_counter(&d.instruction(), 0, issued, held);
+    Doing {
+        action: decoded_action(d, a, b, image),
+        next: decoded_next(d, a, b),
+    }
+}
+
+/// What is left of MEM/WB's write, what EX/MEM changes, and what ID/EX does, over the memory of `arch`.
+#[tactic(auto, unfolding(crate::specs::Aftermaths::left_by))]
+pub fn left_by(arch: &Arch<'_>, first: &Write, below: &Change, doing: &Doing) -> Aftermath
+    ensures { result ≡ spec.left_by arch.now.image first.now below.now doing.now (state_of arch.now).memory }
+{
+    Aftermath {
+        first: *first,
+        below: *below,
+        above: change_of(arch, &below.store, &doing.action),
+        pc: doing.next,
+        end: end_of(&doing.action),
+    }
+}
+
 /// What MEM/WB, EX/MEM and a reached ID/EX leave once they are completed over the memory of `arch`. `npc` is the word address that
 /// comes next, `issued` the number of instructions before it, and `below` what EX/MEM changes.
 #[tactic(auto, unfolding(crate::specs::Aftermaths::aftermath_of, crate::specs::Aftermaths::change_of))]
@@ -249,25 +291,15 @@ pub fn completed(
         rd: w.rd,
         value: w.value,
     };
-    let below = *below;
-    if !(d.valid && below.end.is_none() && d.pc == npc) {
-        return Aftermath {
-            first,
-            below,
-            above: NO_CHANGE,
-            pc: npc,
-            end: below.end,
-        };
+    if is_completed(m, d, npc) {
+        let doing = doing_of(w, m, d, below.write.value, issued, arch.image());
+        return left_by(arch, &first, below, &doing);
     }
-    let a = operand_held(d.rs1, d.a, m, w, below.write.value);
-    let held = operand_held(d.rs2, d.b, m, w, below.write.value);
-    let b = with_counter(&d.instruction(), 0, issued, held);
-    let action = decoded_action(d, a, b, arch.image());
     Aftermath {
         first,
-        below,
-        above: change_of(arch, &below.store, &action),
-        pc: decoded_next(d, a, b),
-        end: end_of(&action),
+        below: *below,
+        above: NO_CHANGE,
+        pc: npc,
+        end: below.end,
     }
 }

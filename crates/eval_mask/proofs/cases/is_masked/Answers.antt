@@ -1,6 +1,6 @@
 use Rattle.std.proofs.Common.{sym, ◌∙◌}
 use Rattle.eval_mask.proofs.Masked.{masked_exactly}
-use Rattle.eval_mask.proofs.latches.is_masked.Goals as goal
+use Rattle.eval_mask.proofs.cases.is_masked.Goals as goal
 
 pub returns : goal.returns
 returns c =
