@@ -11,7 +11,7 @@ use Rattle.rv_table.specs.declared.operation.StoreKind.{StoreKind}
 use Rattle.rv_table.specs.declared.operation.StoreKind.TheVariants.{Sb, Sh, Sw}
 use Rattle.need_pass.specs.Tables.{Needs, byte_need, reg_need}
 use Rattle.eval_mask.specs.Aftermaths.{memory_after, registers_after, stored_over, written}
-use Rattle.eval_mask.specs.Compared.{SameByte, SameBytes, SameCovered, SameRegister, SameRegisters, SameRun, SameStored, SameWhere, SameWritten, covers}
+use Rattle.eval_mask.specs.Compared.{SameByte, SameBytes, SameCovered, SameRegister, SameRegisters, SameRun, SameStored, SameWhere, SameWritten, covers, need_at}
 use Rattle.eval_mask.specs.declared.completing.Aftermath.{Aftermath}
 use Rattle.eval_mask.specs.declared.completing.Store.{Store}
 use Rattle.eval_mask.specs.declared.completing.Write.{Write}
@@ -44,8 +44,15 @@ same_needed n mask a b h = (
   λ s. rw (all_same n mask a b h s) refl,
 )
 
+pub need_inside : (needs : Needs) (r j : ℕ) → 0 < r → r < 32 → need_at needs r j ≡ reg_need needs r j
+need_inside needs r j h l = grind (arith, nat_tests)
+
 pub same_all : (n mask a b : ℕ) → a ≡ b → SameWhere n mask a b
 same_all n mask a b e = record { same = λ k l one. ap (λ (v : ℕ). bit_at v k) e }
+
+-- a need that is known
+pub known_mask : (needs : Needs) (r q j mask : ℕ) → mask ≡ need_at needs q j → r ≡ q → 0 < r → r < 32 → mask ≡ reg_need needs r j
+known_mask needs r q j mask e f above below = e ∙ ap (λ (s : ℕ). need_at needs s j) (sym f) ∙ need_inside needs r j above below
 
 -- ---- registers
 

@@ -17,33 +17,33 @@ use Rattle.need_pass.specs.ProgramBits.{ProgramBit, Register, Byte, IsProgramBit
 use Rattle.need_pass.specs.Tables.{Needs, reg_need}
 use Rattle.eval_mask.specs.Aftermaths.{aftermath_of, change_of, doing_of, is_completed, left_by, state_after, written}
 use Rattle.eval_mask.specs.Agreement.{Agree, IsNeeded, SameNeeded}
-use Rattle.eval_mask.specs.Cases.{AgreesWithOwn, IsCase, WriteBoth, need_at}
-use Rattle.eval_mask.specs.Compared.{SameWhere}
+use Rattle.eval_mask.specs.Cases.{AgreesWithOwn, IsCase, WriteBoth}
+use Rattle.eval_mask.specs.Compared.{SameWhere, need_at}
 use Rattle.eval_mask.specs.LatchMasks.{base_of, reads_clock}
 use Rattle.eval_mask.specs.declared.cases.Case.{Case}
 use Rattle.eval_mask.specs.declared.completing.Aftermath.{Aftermath}
 use Rattle.eval_mask.specs.declared.completing.Change.{Change}
 use Rattle.eval_mask.specs.declared.completing.Doing.{Doing}
 use Rattle.eval_mask.specs.declared.completing.Write.{Write}
-use Rattle.eval_mask.proofs.Differences.{chained}
+use Rattle.eval_mask.proofs.Differences.{chained, need_inside}
 use Rattle.eval_mask.proofs.Masked.{IsAskedOf, masked_exactly, masked_never}
 
 -- ---- where it is completed
 
-reached_is : (image : LoadedImage) (w : ResultLatch) (m : ExecutedLatch) (d : DecodedLatch) (memory : ℕ → ℕ) (npc x : ℕ) → is_completed m d npc ≡ true
+pub reached_is : (image : LoadedImage) (w : ResultLatch) (m : ExecutedLatch) (d : DecodedLatch) (memory : ℕ → ℕ) (npc x : ℕ) → is_completed m d npc ≡ true
     → aftermath_of image w m d memory npc x
     ≡ left_by image (record { rd = w.rd; value = w.value }) (change_of image (action_of m) memory) (doing_of image w m d memory x) memory
 unfolding aftermath_of
 reached_is image w m d memory npc x e = rw e refl
 
-own_is : (needs : Needs) (arch : ArchState) (w : ResultLatch) (m : ExecutedLatch) (d : DecodedLatch) (case : Case) → IsCase needs arch w m d case → case.reached ≡ true
+pub own_is : (needs : Needs) (arch : ArchState) (w : ResultLatch) (m : ExecutedLatch) (d : DecodedLatch) (case : Case) → IsCase needs arch w m d case → case.reached ≡ true
     → case.own ≡ left_by arch.image (record { rd = w.rd; value = w.value }) (change_of arch.image (action_of m) (state_of arch).memory) case.doing (state_of arch).memory
 own_is needs arch w m d case is on =
     is.outcome
     ∙ reached_is arch.image w m d (state_of arch).memory case.npc case.issued (sym is.reached ∙ on)
     ∙ ap (λ (doing : Doing). left_by arch.image (record { rd = w.rd; value = w.value }) (change_of arch.image (action_of m) (state_of arch).memory) doing (state_of arch).memory) (sym is.doing)
 
-left_again : (image : LoadedImage) (first : Write) (below : Change) (doing other : Doing) (memory : ℕ → ℕ) (own : Aftermath) → own ≡ left_by image first below doing memory
+pub left_again : (image : LoadedImage) (first : Write) (below : Change) (doing other : Doing) (memory : ℕ → ℕ) (own : Aftermath) → own ≡ left_by image first below doing memory
     → left_by image own.first own.below other memory ≡ left_by image first below other memory
 unfolding left_by
 left_again image first below doing other memory own e = rw e refl
@@ -57,7 +57,7 @@ own_left needs arch w m d case is on =
 completed_same : (m : ExecutedLatch) (d other : DecodedLatch) (npc : ℕ) → other.valid ≡ d.valid → other.pc ≡ d.pc → is_completed m other npc ≡ is_completed m d npc
 completed_same m d other npc e f = rw (e, f) refl
 
-clock_is : (arch : ArchState) (w : ResultLatch) (m : ExecutedLatch) (d : DecodedLatch) (rd old npc x : ℕ) → is_completed m d npc ≡ true
+pub clock_is : (arch : ArchState) (w : ResultLatch) (m : ExecutedLatch) (d : DecodedLatch) (rd old npc x : ℕ) → is_completed m d npc ≡ true
     → reads_clock arch.image (record { w = w; m = m; d = d }) (base_of arch rd old npc x) ≡ is_clocked (op_of_latch d)
 unfolding reads_clock
 clock_is arch w m d rd old npc x e = ap (λ (t : Bool). t && is_clocked (op_of_latch d)) e
@@ -103,9 +103,6 @@ alike_same needs arch case doing own e f =
     let same =
     ap (λ (x : Doing). left_by arch.image case.own.first case.own.below x (state_of arch).memory) (same_doing doing case.doing e f) ∙ sym own in
     (λ t. agrees_itself needs arch case _ same, λ a. refl)
-
-need_inside : (needs : Needs) (r j : ℕ) → 0 < r → r < 32 → need_at needs r j ≡ reg_need needs r j
-need_inside needs r j h l = grind (arith, nat_tests)
 
 need_outside : (needs : Needs) (r j : ℕ) → ((0 < r) × (r < 32) → ⊥) → need_at needs r j ≡ 0
 need_outside needs r j h = grind (arith, nat_tests)
@@ -185,8 +182,8 @@ above_of image first below rd y next memory own e = rw e refl
 
 pub alike_written : (needs : Needs) (arch : ArchState) (case : Case) (doing : Doing) (rd x y : ℕ) (r : Bool)
     → case.own ≡ left_by arch.image case.own.first case.own.below case.doing (state_of arch).memory
-    → case.need ≡ need_at needs case.own.above.write.rd case.first_after → doing.next ≡ case.doing.next
-    → WriteBoth rd doing.action case.doing.action x y → IsTrue r ↔ SameWhere 32 case.need x y
+    → case.known.above.mask ≡ need_at needs case.own.above.write.rd case.first_after → doing.next ≡ case.doing.next
+    → WriteBoth rd doing.action case.doing.action x y → IsTrue r ↔ SameWhere 32 case.known.above.mask x y
     → IsTrue r ↔ AgreesWithOwn needs arch case (left_by arch.image case.own.first case.own.below doing (state_of arch).memory)
 alike_written needs arch case doing rd x y r own need next both h =
     let image = arch.image in
@@ -197,7 +194,7 @@ alike_written needs arch case doing rd x y r own need next both h =
     own
     ∙ ap (λ (z : Doing). left_by image case.own.first case.own.below z memory)
     (same_doing case.doing (record { action = Writes rd y; next = case.doing.next }) both.second refl) in
-    let same_need : case.need ≡ need_at needs rd case.first_after =
+    let same_need : case.known.above.mask ≡ need_at needs rd case.first_after =
     need ∙ ap (λ (q : ℕ). need_at needs q case.first_after) (above_of image case.own.first case.own.below rd y case.doing.next memory case.own mine) in
     chained (subst (λ (n : ℕ). IsTrue r ↔ SameWhere 32 n x y) same_need h)
     (subst (λ (o : Aftermath). SameWhere 32 (need_at needs rd case.first_after) x y ↔ Agree needs case.first_after (state_after (left_by image case.own.first case.own.below doing memory) registers memory) (state_after o registers memory)) (sym mine)

@@ -29,6 +29,10 @@ abbrev pub store_by : LoadedImage → Action → Option Store
 store_by image (Stores kind x y) = if word_in_ram image (x / 4) then Some (record { kind = kind; address = x; value = y }) else None
 store_by image _ = None
 
+-- the write that MEM/WB holds
+abbrev pub write_held : ResultLatch → Write
+write_held w = record { rd = w.rd; value = w.value }
+
 -- what an action changes, over this memory
 unfoldable pub change_of : LoadedImage → Action → (ℕ → ℕ) → Change
 change_of image done memory =
@@ -68,7 +72,7 @@ left_by image first below doing memory =
 -- number of instructions before it
 unfoldable pub aftermath_of : LoadedImage → ResultLatch → ExecutedLatch → DecodedLatch → (ℕ → ℕ) → ℕ → ℕ → Aftermath
 aftermath_of image w m d memory npc x =
-    let first : Write = record { rd = w.rd; value = w.value } in
+    let first = write_held w in
     let below = change_of image (action_of m) memory in
     if is_completed m d npc
     then left_by image first below (doing_of image w m d memory x) memory

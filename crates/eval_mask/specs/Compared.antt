@@ -1,12 +1,23 @@
 -- Registers, memories and aftermaths that are the same where it is needed.
-use Rattle.std.specs.Prelude.{◌≡◌, ◌⊎◌, ℕ, ◌+◌, ◌<◌, ◌≤◌, ◌^◌, Bool, true, false, Option, Some, None}
+use Rattle.std.specs.Prelude.{◌≡◌, ◌⊎◌, ℕ, ◌+◌, ◌<◌, ◌≤◌, ◌^◌, ◌&&◌, Bool, true, false, nat_lt, Option, Some, None, if◌then◌else◌}
 use Rattle.std.specs.Int.{bit_at}
 use Rattle.rv_table.specs.Accesses.{accesses, store_size}
 use Rattle.need_pass.specs.Tables.{Needs, byte_need, reg_need}
 use Rattle.eval_mask.specs.Aftermaths.{memory_after, registers_after}
+use Rattle.eval_mask.specs.declared.compare.Known.{Known}
 use Rattle.eval_mask.specs.declared.completing.Aftermath.{Aftermath}
 use Rattle.eval_mask.specs.declared.completing.Store.{Store}
 use Rattle.eval_mask.specs.declared.completing.Write.{Write}
+
+-- the needed bits of register r before instruction j; none of a number that names none
+abbrev pub need_at : Needs → ℕ → ℕ → ℕ
+need_at needs r j = if nat_lt 0 r && nat_lt r 32 then reg_need needs r j else 0
+
+-- the masks are the needs of those registers
+pub record IsKnown (needs : Needs) (j : ℕ) (known : Known) : Type 0 where
+  pub first : known.first.mask ≡ need_at needs known.first.r j
+  pub below : known.below.mask ≡ need_at needs known.below.r j
+  pub above : known.above.mask ≡ need_at needs known.above.r j
 
 -- two numbers have the same bits, of n, where a mask has one
 pub record SameWhere (n mask a b : ℕ) : Type 0 where

@@ -1,5 +1,5 @@
 // What the latches leave as they are, worked out once, and whether flipped ones leave the same.
-ghost use Rattle.std.specs.Prelude.{◌≡◌, ◌↔◌, ◌+◌, ◌<◌, ◌≤◌, ◌&&◌, ℕ, IfSome, IsTrue, if◌then◌else◌};
+ghost use Rattle.std.specs.Prelude.{◌≡◌, ◌↔◌, ◌+◌, ◌<◌, ◌≤◌, ◌&&◌, ℕ, IfSome, IsTrue, None, true, if◌then◌else◌};
 ghost use Rattle.rv_isa.specs.Architecture.{ArchState, state_of};
 ghost use Rattle.pipe_latch.specs.LatchedActions.{action_of};
 ghost use Rattle.pipe_latch.specs.Latches.{ResultLatch};
@@ -7,12 +7,14 @@ ghost use Rattle.eval_mask.specs.Aftermaths as leaving;
 ghost use Rattle.eval_mask.specs.Aftermaths.{aftermath_of, change_of};
 ghost use Rattle.eval_mask.specs.Cases as spec;
 ghost use Rattle.eval_mask.specs.Cases.{IsCase};
+ghost use Rattle.eval_mask.specs.Compared.{IsKnown, need_at};
 ghost use Rattle.eval_mask.specs.LatchMasks as masks;
 ghost use Rattle.eval_mask.specs.LatchMasks.{IsMasked, Latches, base_of};
 
-use crate::compare::{agree, same_word};
+use crate::compare::{Known, agree, known_needs, same_word};
 use crate::completing::{
     Aftermath, Change, Doing, Write, completed, doing_of, executed_change, is_completed, left_by,
+    operand_held,
 };
 use need_pass::NeedTable;
 use pipe_latch::{ExMem, IdEx, MemWb};
@@ -39,8 +41,11 @@ pub struct Case {
     pub doing: Doing,
     /// What the latches leave as they are.
     pub own: Aftermath,
-    /// The needed bits of the register that ID/EX writes.
-    pub need: u32,
+    /// The operands of ID/EX, the second before a counter takes its place.
+    pub a: u32,
+    pub held: u32,
+    /// The needs of the registers that are written.
+    pub known: Known,
 }
 
 fn is_on_path(d: &IdEx, npc: u32, needs: &NeedTable, issued: u32) -> bool
@@ -96,19 +101,9 @@ pub fn case_of(
         reached: is_completed(m, d, npc),
         doing: doing_of(w, m, d, below.write.value, issued, arch.image()),
         own,
-        need: need_at(needs, own.above.write.rd, first_after),
-    }
-}
-
-/// The needed bits of register `r` before instruction `at`, none of a number that names none.
-fn need_at(needs: &NeedTable, r: u8, at: u32) -> u32
-    requires { at ≤ needs.now.count }
-    ensures { result ≡ spec.need_at needs.now r at }
-{
-    if 0 < r && r < 32 {
-        needs.reg_need(r, at)
-    } else {
-        0
+        a: operand_held(d.rs1, d.a, m, w, below.write.value),
+        held: operand_held(d.rs2, d.b, m, w, below.write.value),
+        known: known_needs(needs, first_after, &own),
     }
 }
 
@@ -118,6 +113,23 @@ fn reads_clock(m: &ExMem, d: &IdEx, npc: u32) -> bool
     ensures { (arch : ArchState) (w : ResultLatch) (rd old x : ℕ) → result ≡ masks.reads_clock arch.image (record { w = w; m = m.now; d = d.now }) (base_of arch rd old npc x) }
 {
     is_completed(m, d, npc) && is_clocked(&d.instruction())
+}
+
+/// Whether the same is left, where it is needed, as of the latches of a case.
+pub fn same_left(arch: &Arch<'_>, needs: &NeedTable, case: &Case, left: &Aftermath) -> bool
+    requires within { case.now.first_after ≤ needs.now.count }
+    requires known { IsKnown needs.now case.now.first_after case.now.known }
+    ensures { IsTrue result ↔ spec.AgreesWithOwn needs.now arch.now case.now left.now }
+{
+    agree(
+        arch,
+        &case.oldest,
+        needs,
+        case.first_after,
+        &case.known,
+        left,
+        &case.own,
+    )
 }
 
 /// Whether the outcome of flipped latches agrees with that of the latches of a case. `below` is what EX/MEM changes.
@@ -131,6 +143,7 @@ pub fn is_masked(
     case: &Case,
 ) -> bool
     requires within { case.now.first_after ≤ needs.now.count }
+    requires known { IsKnown needs.now case.now.first_after case.now.known }
     requires below { below.now ≡ change_of arch.now.image (action_of m.now) (state_of arch.now).memory }
     ensures { (l : Latches) → case.now.own ≡ aftermath_of arch.now.image l.w l.m l.d (state_of arch.now).memory case.now.npc case.now.issued → IsTrue result ↔ IsMasked needs.now case.now.first_after arch.now.image (base_of arch.now case.now.oldest.rd case.now.oldest.value case.now.npc case.now.issued) l (record { w = w.now; m = m.now; d = d.now }) }
 {
@@ -138,14 +151,7 @@ pub fn is_masked(
         return false;
     }
     let flipped = completed(below, w, m, d, arch, case.npc, case.issued);
-    agree(
-        arch,
-        &case.oldest,
-        needs,
-        case.first_after,
-        &flipped,
-        &case.own,
-    )
+    same_left(arch, needs, case, &flipped)
 }
 
 pub fn same_action(a: &Action, b: &Action) -> bool
@@ -174,7 +180,8 @@ fn both_write(a: &Action, b: &Action) -> Option<(u32, u32)>
 /// by its need, which is looked up once.
 pub fn is_doing_alike(arch: &Arch<'_>, needs: &NeedTable, case: &Case, doing: &Doing) -> bool
     requires within { case.now.first_after ≤ needs.now.count }
-    requires need { case.now.need ≡ spec.need_at needs.now case.now.own.above.write.rd case.now.first_after }
+    requires need { case.now.known.above.mask ≡ need_at needs.now case.now.own.above.write.rd case.now.first_after }
+    requires known { IsKnown needs.now case.now.first_after case.now.known }
     requires own { case.now.own ≡ leaving.left_by arch.now.image case.now.own.first case.now.own.below case.now.doing (state_of arch.now).memory }
     ensures { IsTrue result ↔ spec.AgreesWithOwn needs.now arch.now case.now (leaving.left_by arch.now.image case.now.own.first case.now.own.below doing.now (state_of arch.now).memory) }
 {
@@ -183,16 +190,33 @@ pub fn is_doing_alike(arch: &Arch<'_>, needs: &NeedTable, case: &Case, doing: &D
             return true;
         }
         if let Some((value, own)) = both_write(&doing.action, &case.doing.action) {
-            return same_word(case.need, value, own);
+            return same_word(case.known.above.mask, value, own);
         }
     }
     let left = left_by(arch, &case.own.first, &case.own.below, doing);
-    agree(
-        arch,
-        &case.oldest,
-        needs,
-        case.first_after,
-        &left,
-        &case.own,
-    )
+    same_left(arch, needs, case, &left)
+}
+
+/// Whether ID/EX has the same operands as in the case, where MEM/WB, or EX/MEM with the value that it writes, is flipped.
+fn same_operands(case: &Case, w: &MemWb, m: &ExMem, d: &IdEx, awaited: u32) -> bool
+    ensures { IsTrue result → spec.SameOperands w.now m.now d.now awaited case.now }
+{
+    operand_held(d.rs1, d.a, m, w, awaited) == case.a
+        && operand_held(d.rs2, d.b, m, w, awaited) == case.held
+}
+
+/// Whether ID/EX isn't completed, or has the same operands with other contents of MEM/WB.
+pub fn is_unmoved(case: &Case, w: &MemWb, m: &ExMem, d: &IdEx) -> bool
+    ensures { IsTrue result → case.now.reached ≡ true → spec.SameOperands w.now m.now d.now case.now.own.below.write.value case.now }
+{
+    !case.reached || same_operands(case, w, m, d, case.own.below.write.value)
+}
+
+/// Whether ID/EX is completed with the same operands with other contents of EX/MEM, which change `below`.
+pub fn is_kept(case: &Case, w: &MemWb, m: &ExMem, d: &IdEx, below: &Change) -> bool
+    ensures reached { IsTrue result → case.now.reached ≡ true }
+    ensures goes_on { IsTrue result → below.now.end ≡ None }
+    ensures operands { IsTrue result → spec.SameOperands w.now m.now d.now below.now.write.value case.now }
+{
+    case.reached && below.end.is_none() && same_operands(case, w, m, d, below.write.value)
 }

@@ -208,7 +208,7 @@ fn change_of(arch: &Arch<'_>, under: &Option<Store>, action: &Action) -> Change
 }
 
 /// An operand that ID/EX holds, with what completing EX/MEM writes where it must be waited for.
-fn operand_held(rs: u8, held: u32, m: &ExMem, w: &MemWb, awaited: u32) -> u32
+pub fn operand_held(rs: u8, held: u32, m: &ExMem, w: &MemWb, awaited: u32) -> u32
     ensures { result ≡ forwarding.settled (forwarding.operand (action_of m.now) w.now rs held) awaited }
 {
     match operand(rs, held, m, w) {
@@ -235,6 +235,16 @@ fn decoded_next(d: &IdEx, a: u32, b: u32) -> u32
     ensures { result ≡ next_address (op_of_latch d.now) d.now.pc a b }
 {
     next_address(&d.instruction(), d.pc, a, b)
+}
+
+/// The write that MEM/WB holds.
+pub fn write_held(w: &MemWb) -> Write
+    ensures { result ≡ spec.write_held w.now }
+{
+    Write {
+        rd: w.rd,
+        value: w.value,
+    }
 }
 
 /// Whether ID/EX is completed: it is occupied, at the word address that comes next, and what EX/MEM does doesn't end the run.
@@ -287,10 +297,7 @@ pub fn completed(
     requires { below.now ≡ spec.change_of arch.now.image (action_of m.now) (state_of arch.now).memory }
     ensures { result ≡ spec.aftermath_of arch.now.image w.now m.now d.now (state_of arch.now).memory npc issued }
 {
-    let first = Write {
-        rd: w.rd,
-        value: w.value,
-    };
+    let first = write_held(w);
     if is_completed(m, d, npc) {
         let doing = doing_of(w, m, d, below.write.value, issued, arch.image());
         return left_by(arch, &first, below, &doing);

@@ -3,8 +3,8 @@ ghost use Rattle.std.specs.Prelude.{◌≡◌, ◌↔◌, ◌<◌, ◌≤◌, Is
 ghost use Rattle.eval_mask.specs.Cases.{IsCase};
 ghost use Rattle.eval_mask.specs.LatchMasks.{HasBits, IsExecutedMasked, IsLatchMask, IsResultMasked};
 
-use crate::cases::{Case, case_of, is_masked, same_action};
-use crate::completing::executed_change;
+use crate::cases::{Case, case_of, is_kept, is_masked, is_unmoved, same_action, same_left};
+use crate::completing::{Aftermath, executed_change, left_by, write_held};
 use crate::decoded::{decoded_high, decoded_low};
 use bit_field::Struck;
 use need_pass::NeedTable;
@@ -46,7 +46,18 @@ fn executed_bit(
         return !case.reads_clock;
     }
     let below = executed_change(arch, &flipped);
-    is_masked(&below, w, &flipped, d, arch, needs, case)
+    if !is_kept(case, w, &flipped, d, &below) {
+        return is_masked(&below, w, &flipped, d, arch, needs, case);
+    }
+    if case.reads_clock {
+        return false;
+    }
+    same_left(
+        arch,
+        needs,
+        case,
+        &left_by(arch, &case.own.first, &below, &case.doing),
+    )
 }
 
 /// Whether bit `k` of MEM/WB is masked.
@@ -67,7 +78,14 @@ fn written_bit(
 {
     let mut flipped = *w;
     flipped.flip(k);
-    is_masked(&case.own.below, &flipped, m, d, arch, needs, case)
+    if !is_unmoved(case, &flipped, m, d) {
+        return is_masked(&case.own.below, &flipped, m, d, arch, needs, case);
+    }
+    if case.reads_clock {
+        return false;
+    }
+    let first = write_held(&flipped);
+    same_left(arch, needs, case, &Aftermath { first, ..case.own })
 }
 
 /// The masked bits of EX/MEM.
