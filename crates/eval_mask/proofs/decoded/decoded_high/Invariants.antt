@@ -1,7 +1,7 @@
 use Rattle.std.proofs.Common.{◌+◌}
 use Rattle.eval_mask.specs.Cases.{IsMaskBelow}
 use Rattle.eval_mask.specs.LatchMasks.{IsDecodedMasked}
-use Rattle.eval_mask.proofs.latches.decoded_high.Given as goal
+use Rattle.eval_mask.proofs.decoded.decoded_high.Given as goal
 
 abbrev pub invariant-loop-k : goal.invariant-loop-k
 invariant-loop-k l = IsMaskBelow l.k (λ k. IsDecodedMasked l.needs l.arch
