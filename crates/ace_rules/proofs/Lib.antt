@@ -30,3 +30,7 @@ mod FetchedClasses
 mod KnownMoments
 mod ClassNumbers
 pub mod OneClass
+pub mod Sums
+pub mod Tallies
+mod Popcounts
+mod FirstMasks

@@ -3,7 +3,7 @@ use Rattle.std.specs.Prelude.{◌≡◌, ℕ, ◌+◌, ◌<◌, ◌==◌, List, 
 use Rattle.ace_class.specs.Classes.{class_number}
 use Rattle.ace_class.specs.declared.class.Class.{Class}
 use Rattle.ace_class.specs.declared.class.TheConstants.{CLASSES}
-use Rattle.ace_count.specs.Sums.{count_below, count_pairs}
+use Rattle.ace_rules.specs.Sums.{count_below, count_pairs}
 
 -- Each number below an end has a class, and a row has grown by how many have each.
 pub record IsAdded (Has : ℕ → Class → Type 0) (end : ℕ) (before row : List ℕ) : Type 0 where

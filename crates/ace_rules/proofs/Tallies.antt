@@ -14,9 +14,9 @@ use Rattle.ace_class.specs.declared.class.Class.TheVariants.{Ace, UnAce}
 use Rattle.ace_class.specs.declared.class.TheConstants.{CLASSES}
 use Rattle.ace_class.specs.declared.class.Rule.TheVariants.{Timing, EmptyPlace, WrongPath, OnPath, Masked, DeadRegister, DeadData}
 use Rattle.ace_class.specs.declared.class.Rule.TheVariants.{StoreRedirection, CleanData, CleanLine, UnaccessedLine, CleanTag, NoTrapCause}
-use Rattle.ace_count.specs.Sums.{count_below, count_pairs, sum_below}
-use Rattle.ace_count.specs.Tallies.{IsAdded, IsTally}
-use Rattle.ace_count.proofs.Sums.{sum_below-suc, sum_below-same, sum_below-const, sum_below-le, sum_below-on, sum_by-sum_below, sum_below-add}
+use Rattle.ace_rules.specs.Sums.{count_below, count_pairs, sum_below}
+use Rattle.ace_rules.specs.Tallies.{IsAdded, IsTally}
+use Rattle.ace_rules.proofs.Sums.{sum_below-suc, sum_below-same, sum_below-const, sum_below-le, sum_below-on, sum_by-sum_below, sum_below-add}
 
 -- each number has one class at most
 abbrev pub HasOne : (ℕ → Class → Type 0) → Type 0
@@ -47,6 +47,20 @@ number-most (UnAce CleanLine) = omega arith
 number-most (UnAce UnaccessedLine) = omega arith
 number-most (UnAce CleanTag) = omega arith
 number-most (UnAce NoTrapCause) = omega arith
+
+-- a row with more at one place
+pub put-at : (row : List ℕ) (i n by : ℕ) → i < length row → slice_index (set row i (slice_index row i + by)) n ≡ slice_index row n + by * number_of (i == n)
+put-at row i n by within =
+    elim (cases_eq n i) [
+      | inl e ↦
+          let same : slice_index (set row i (slice_index row i + by)) i ≡ slice_index row i + by =
+              get_or-set_same row i (slice_index row i + by) 0 within in
+          rw (e, same) (grind (arith, nat_tests))
+      | inr d ↦
+          let other : slice_index (set row i (slice_index row i + by)) n ≡ slice_index row n =
+              get_or-set_other row i n (slice_index row i + by) 0 d in
+          rw other (grind (arith, nat_tests))
+    ]
 
 -- ---- a stretch of numbers that have one class
 
@@ -83,20 +97,6 @@ module _ (Has : ℕ → Class → Type 0) (one : HasOne Has) (from until : ℕ) 
       ∙ ap (λ (s : ℕ). s + (until - from) * number_of (class_number class == n))
       (sum_below-same from _ _ (λ k l. ap (λ c. number_of (class_number c == n)) (before so_far.classes from class k l)))
 
-  at_class : (n i : ℕ) → i ≡ class_number class → i < length row → slice_index (set row i (slice_index row i + (until - from))) n
-      ≡ slice_index row n + (until - from) * number_of (class_number class == n)
-  at_class n i is within =
-      elim (cases_eq n i) [
-        | inl e ↦
-            let same : slice_index (set row i (slice_index row i + (until - from))) i ≡ slice_index row i + (until - from) =
-            get_or-set_same row i (slice_index row i + (until - from)) 0 within in
-            rw (e, same) (grind (arith, nat_tests))
-        | inr d ↦
-            let other : slice_index (set row i (slice_index row i + (until - from))) n ≡ slice_index row n =
-            get_or-set_other row i n (slice_index row i + (until - from)) 0 d in
-            rw other (grind (arith, nat_tests))
-      ]
-
   -- the next numbers have a class, up to before `until`
   pub added-on : (other : Class) → ((k : ℕ) → from ≤ k → k < until → Has k other) → (i by : ℕ) → i ≡ class_number class → i < length row
       → by ≡ until - from → IsAdded Has until old (set row i (slice_index row i + by))
@@ -109,7 +109,7 @@ module _ (Has : ℕ → Class → Type 0) (one : HasOne Has) (from until : ℕ) 
           | inr b ↦ rw (after so_far.classes from class k b, e) (same k b l)
         ];
         full = length-set row _ _ ∙ so_far.full;
-        counts = λ n. let h = so_far.counts n in at_class n i is within ∙ omega (arith, h, stretch n);
+        counts = λ n. let h = so_far.counts n in put-at row i n (until - from) within ∙ rw is (omega (arith, h, stretch n));
       }
 
 -- the row has room for what is added
