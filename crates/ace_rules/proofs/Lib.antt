@@ -4,7 +4,7 @@ mod OnPath
 mod Judged
 mod Noted
 mod Walked
-mod Told
+pub mod Told
 mod AccessedAgain
 mod HeldLines
 mod LineClass
@@ -28,7 +28,6 @@ mod FetchedPlaces
 mod FetchedMasks
 mod FetchedClasses
 mod KnownMoments
-mod ClassNumbers
 pub mod OneClass
 pub mod Sums
 pub mod Tallies
