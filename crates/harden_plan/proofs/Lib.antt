@@ -1,0 +1,2 @@
+pub mod BestSets
+pub mod Sizes
