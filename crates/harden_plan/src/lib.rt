@@ -5,5 +5,10 @@
 #![tactic(auto)]
 
 mod plan;
+mod text;
 
-pub use plan::{Plan, SETS, best};
+pub use plan::{Plan, SETS, best, is_member};
+pub use text::plan_text;
+
+#[cfg(test)]
+mod tests;
