@@ -1,6 +1,5 @@
 -- What a campaign answers is determined by the recorded run, the seed and the number of strikes.
-use Rattle.std.proofs.Common.{◌≡◌, ◌<◌, ℕ, List, length, get_or, refl, sym, ap, ◌∙◌, subst}
-use Rattle.std.specs.Prelude.{Some, slice_get}
+use Rattle.std.proofs.Common.{◌≡◌, ◌<◌, ℕ, List, length, get_or, sym, ap, ◌∙◌, subst}
 use Rattle.std.proofs.lemmas.List.{same_lists}
 use Rattle.std.proofs.lemmas.Option.{slice_get-get_or}
 use Rattle.bit_field.specs.declared.places.Place.{Place}
@@ -15,8 +14,7 @@ use Rattle.strike_campaign.proofs.Indices.{one_place}
 use Rattle.strike_campaign.proofs.OneClass.{one_class}
 use Rattle.strike_campaign.specs.Campaigns.{AreOutcomes, IsCampaign, IsOutcome}
 use Rattle.strike_campaign.specs.Cells.{cells_of}
-use Rattle.strike_campaign.specs.Places.{all_bits}
-use Rattle.strike_campaign.specs.Strikes.{IsStrike, word_of}
+use Rattle.strike_campaign.specs.Strikes.{IsStrike}
 use Rattle.strike_campaign.specs.declared.outcome.Cells.{Cells}
 use Rattle.strike_campaign.specs.declared.outcome.Outcome.{Outcome}
 use Rattle.strike_campaign.specs.declared.strikes.Strike.{Strike}

@@ -1,7 +1,8 @@
 -- The cells, outcome by outcome.
 use Rattle.std.proofs.Common.{◌≡◌, ◌+◌, ◌*◌, ◌<◌, ◌≤◌, ℕ, zero, suc, List, [], ◌∷◌, ◌++◌, Bool, true, false, length, length-append, refl, sym, ap, ◌∙◌, subst, arith}
-use Rattle.std.specs.Prelude.{Some, slice_get, count_by}
+use Rattle.std.specs.Prelude.{Some, slice_get}
 use Rattle.std.proofs.lemmas.List.Sums.{sum_by_push}
+use Rattle.std.proofs.lemmas.Nat.{mul-le}
 use Rattle.std.proofs.lemmas.Option.{none-some, same_Some}
 use Rattle.ace_class.specs.declared.class.Class.{Class}
 use Rattle.ace_class.specs.declared.class.Class.TheVariants.{Ace, UnAce}
@@ -87,6 +88,12 @@ pub same-verdict : (r : RecordedRun) (t : ℕ) (u : State) (verdict : Verdict) �
 same-verdict r t u verdict one is same =
     ap is_same (one.only verdict is ∙ sym (one.only (Same same.cycles) same.same))
 
--- the bound on steps
+-- the bound on steps, after one more strike and in the end
 pub steps-on : (k most old before new : ℕ) → before ≤ old + k * most → new ≤ before + most → new ≤ old + (k + 1) * most
 steps-on k most old before new h l = omega (arith, h, l)
+
+pub steps-within : (k strikes most old before new : ℕ) → k < strikes → before ≤ old + k * most → new ≤ before + most → new ≤ old + strikes * most
+steps-within k strikes most old before new few h l =
+    let one = steps-on k most old before new h l in
+    let all = mul-le (k + 1) most strikes most (omega arith) (omega arith) in
+    omega (arith, one, all)

@@ -1,5 +1,5 @@
 -- The text of a campaign, line by line.
-use Rattle.std.proofs.Common.{◌≡◌, ℕ, List, [], ◌∷◌, ◌++◌, append_assoc, refl, codes, decimal}
+use Rattle.std.proofs.Common.{◌≡◌, ℕ, [], ◌∷◌, ◌++◌, append_assoc, refl, codes, decimal}
 use Rattle.std.proofs.lemmas.List.{append-nil}
 use Rattle.avf_report.specs.Texts.{line_of, text_of}
 use Rattle.strike_campaign.specs.CampaignTexts.{campaign_lines, campaign_text_of}

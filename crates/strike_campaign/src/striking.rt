@@ -64,7 +64,8 @@ pub fn campaign<L: Ledger>(
     let mut cells = Cells::none();
     for _k in 0..strikes {
         let strike = draw_strike(&mut words, a.recorded());
-        cells.add(&judge(alloc, a, strike, steps)?);
+        let outcome = judge(alloc, a, strike, steps)?;
+        cells.add(&outcome);
     }
     Ok(cells)
 }
