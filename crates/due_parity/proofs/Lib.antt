@@ -1,0 +1,9 @@
+mod BytesRead
+mod DataCycles
+mod DataMoves
+mod Lists
+mod Moves
+mod OtherBytes
+mod OtherCache
+mod RegisterCycles
+mod Runs

@@ -1,0 +1,2 @@
+pub mod StruckCycles
+pub mod Touches
