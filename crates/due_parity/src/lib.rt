@@ -1,9 +1,12 @@
 // What parity detects.
 #![tactic(auto)]
 
+mod bytes;
 mod fate;
 mod laws;
+mod registers;
 mod touch;
+mod watched;
 
 pub use fate::Fate;
 pub use laws::parity_law;
