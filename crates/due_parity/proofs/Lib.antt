@@ -10,3 +10,4 @@ mod OtherCache
 mod RegisterCycles
 mod Runs
 mod Said
+mod Watching
