@@ -17,7 +17,7 @@ use Rattle.pipe_latch.specs.LatchedActions.{action_of}
 use Rattle.pipe_latch.specs.Latches.{DecodedLatch, ExecutedLatch, ResultLatch, op_of_latch}
 use Rattle.cyc_machine.specs.InFlight.{completed_item, item_of_latch, latches_completed, operand_held, outcome}
 use Rattle.need_pass.specs.Tables.{Needs}
-use Rattle.eval_mask.specs.Aftermaths.{Tells, aftermath_of, change_of, doing_of, is_completed, left_by, no_change, state_after, store_by, stored_over}
+use Rattle.eval_mask.specs.Aftermaths.{Tells, aftermath_of, change_of, doing_of, doing_with, is_completed, left_by, no_change, state_after, store_by, stored_over}
 use Rattle.eval_mask.specs.Agreement.{Agree}
 use Rattle.eval_mask.specs.Cases.{IsCase}
 use Rattle.eval_mask.specs.LatchMasks.{IsDecodedMasked, IsExecutedMasked, IsMasked, IsResultMasked, Latches, base_of, decoded_field, executed_field, is_in, reads_clock, result_field}
@@ -42,7 +42,7 @@ told_if false x y f m s u a b = b
 
 pub outcome_told : (arch : ArchState) (w : ResultLatch) (m : ExecutedLatch) (d : DecodedLatch) (rd old npc x : ℕ)
     → Tells (aftermath_of arch.image w m d (state_of arch).memory npc x) (put_reg rd old (slice_index arch.registers)) (state_of arch).memory (outcome arch.image w m d (base_of arch rd old npc x))
-unfolding outcome aftermath_of doing_of left_by completed change_of
+unfolding outcome aftermath_of doing_of doing_with left_by completed change_of
 outcome_told arch w m d rd old npc x =
     let image = arch.image in
     let before = (state_of arch).memory in

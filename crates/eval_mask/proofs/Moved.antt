@@ -3,14 +3,12 @@ use Rattle.std.proofs.Common.{◌≡◌, ◌↔◌, ℕ, Bool, true, false, refl
 use Rattle.std.specs.Prelude.{◌==◌, ◌&&◌, IsTrue, Option, None, Some, is_none, if◌then◌else◌}
 use Rattle.avf_base.specs.declared.end.End.{End}
 use Rattle.elf_load.specs.Image.{LoadedImage}
-use Rattle.rv_table.specs.Actions.{next_address, with_counter}
 use Rattle.rv_isa.specs.Architecture.{ArchState, state_of}
-use Rattle.rv_isa.specs.Instruction.{action_in, end_of, given}
+use Rattle.rv_isa.specs.Instruction.{end_of}
 use Rattle.pipe_latch.specs.LatchedActions.{action_of}
-use Rattle.pipe_latch.specs.Latches.{DecodedLatch, ExecutedLatch, ResultLatch, op_of_latch}
-use Rattle.cyc_machine.specs.InFlight.{operand_held}
+use Rattle.pipe_latch.specs.Latches.{DecodedLatch, ExecutedLatch, ResultLatch}
 use Rattle.need_pass.specs.Tables.{Needs}
-use Rattle.eval_mask.specs.Aftermaths.{aftermath_of, change_of, doing_of, is_completed, left_by, no_change}
+use Rattle.eval_mask.specs.Aftermaths.{aftermath_of, change_of, doing_of, doing_with, is_completed, left_by, no_change, operand_after, write_by_action}
 use Rattle.eval_mask.specs.Cases.{AgreesWithOwn, IsCase, SameOperands}
 use Rattle.eval_mask.specs.LatchMasks.{base_of, reads_clock}
 use Rattle.eval_mask.specs.declared.cases.Case.{Case}
@@ -18,29 +16,22 @@ use Rattle.eval_mask.specs.declared.completing.Aftermath.{Aftermath}
 use Rattle.eval_mask.specs.declared.completing.Change.{Change}
 use Rattle.eval_mask.specs.declared.completing.Doing.{Doing}
 use Rattle.eval_mask.specs.declared.completing.Write.{Write}
+use Rattle.eval_mask.proofs.Completed.{doing_told}
 use Rattle.eval_mask.proofs.Doings.{clock_is, left_again, own_is, reached_is}
 use Rattle.eval_mask.proofs.Masked.{IsAskedOf, masked_exactly, masked_never}
-use Rattle.eval_mask.proofs.OwnChange.{own_awaited}
+use Rattle.eval_mask.proofs.OwnChange.{own_write, write_of_change}
 
--- what ID/EX does with these operands
-abbrev doing_with : LoadedImage → DecodedLatch → ℕ → ℕ → ℕ → Doing
-doing_with image d x a held =
-    let b = with_counter (op_of_latch d) 0 x held in
-    record { action = action_in image (op_of_latch d) d.pc a b; next = next_address (op_of_latch d) d.pc a b }
-
-doing_is : (image : LoadedImage) (w : ResultLatch) (m : ExecutedLatch) (d : DecodedLatch) (memory : ℕ → ℕ) (x a held : ℕ)
-    → operand_held image (action_of m) w memory d.rs1 d.a ≡ a → operand_held image (action_of m) w memory d.rs2 d.b ≡ held
-    → doing_of image w m d memory x ≡ doing_with image d x a held
-unfolding doing_of
-doing_is image w m d memory x a held e f = ap (λ (v : ℕ). doing_with image d x v (operand_held image (action_of m) w memory d.rs2 d.b)) e ∙ ap (λ (v : ℕ). doing_with image d x a v) f
-
-doing_same : (needs : Needs) (arch : ArchState) (w : ResultLatch) (m : ExecutedLatch) (d : DecodedLatch) (case : Case) (v : ResultLatch) (n : ExecutedLatch) (awaited : ℕ)
-    → IsCase needs arch w m d case → awaited ≡ given arch.image (action_of n) (state_of arch).memory → SameOperands v n d awaited case
+doing_same : (needs : Needs) (arch : ArchState) (w : ResultLatch) (m : ExecutedLatch) (d : DecodedLatch) (case : Case) (v : ResultLatch) (n : ExecutedLatch) (below : Write)
+    → IsCase needs arch w m d case → below ≡ write_by_action arch.image (action_of n) (state_of arch).memory → SameOperands v d below case
     → doing_of arch.image v n d (state_of arch).memory case.issued ≡ case.doing
-doing_same needs arch w m d case v n awaited is e same =
-    let operands = rw e at same in
-    doing_is arch.image v n d (state_of arch).memory case.issued case.a case.held operands.a operands.held
-    ∙ sym (doing_is arch.image w m d (state_of arch).memory case.issued case.a case.held (sym is.a) (sym is.held))
+doing_same needs arch w m d case v n below is e same =
+    let image = arch.image in
+    let memory = (state_of arch).memory in
+    let own = case.own.below.write in
+    sym (doing_told image v n d memory below case.issued e)
+    ∙ ap (λ (x : ℕ). doing_with image d case.issued x (operand_after below v d.rs2 d.b)) (same.a ∙ is.a)
+    ∙ ap (λ (x : ℕ). doing_with image d case.issued (operand_after own w d.rs1 d.a) x) (same.held ∙ is.held)
+    ∙ doing_told image w m d memory own case.issued (own_write needs arch w m d case is)
     ∙ sym is.doing
 
 -- ---- other contents of MEM/WB
@@ -57,7 +48,7 @@ first_by true image first other below doing more memory npc end e = rw (e refl) 
 first_by false image first other below doing more memory npc end e = refl
 
 first_left : (needs : Needs) (arch : ArchState) (w : ResultLatch) (m : ExecutedLatch) (d : DecodedLatch) (case : Case) (v : ResultLatch)
-    → IsCase needs arch w m d case → (case.reached ≡ true → SameOperands v m d case.own.below.write.value case)
+    → IsCase needs arch w m d case → (case.reached ≡ true → SameOperands v d case.own.below.write case)
     → with_first (record { rd = v.rd; value = v.value }) case.own ≡ aftermath_of arch.image v m d (state_of arch).memory case.npc case.issued
 unfolding aftermath_of
 first_left needs arch w m d case v is same =
@@ -66,7 +57,7 @@ first_left needs arch w m d case v is same =
     (change_of arch.image (action_of m) (state_of arch).memory) (doing_of arch.image w m d (state_of arch).memory case.issued)
     (doing_of arch.image v m d (state_of arch).memory case.issued) (state_of arch).memory case.npc (end_of (action_of m))
     (λ e.
-    doing_same needs arch w m d case v m case.own.below.write.value is (own_awaited needs arch w m d case is) (same (is.reached ∙ e)) ∙ is.doing))
+    doing_same needs arch w m d case v m case.own.below.write is (own_write needs arch w m d case is) (same (is.reached ∙ e)) ∙ is.doing))
 
 first_clock : (image : LoadedImage) (arch : ArchState) (w v : ResultLatch) (m : ExecutedLatch) (d : DecodedLatch) (rd old npc x : ℕ)
     → reads_clock image (record { w = v; m = m; d = d }) (base_of arch rd old npc x) ≡ reads_clock image (record { w = w; m = m; d = d }) (base_of arch rd old npc x)
@@ -74,7 +65,7 @@ unfolding reads_clock
 first_clock image arch w v m d rd old npc x = refl
 
 pub first_exactly : (needs : Needs) (arch : ArchState) (w : ResultLatch) (m : ExecutedLatch) (d : DecodedLatch) (case : Case) (v : ResultLatch) (left : Aftermath) (r : Bool)
-    → IsCase needs arch w m d case → (case.reached ≡ true → SameOperands v m d case.own.below.write.value case) → case.reads_clock ≡ false
+    → IsCase needs arch w m d case → (case.reached ≡ true → SameOperands v d case.own.below.write case) → case.reads_clock ≡ false
     → left ≡ (record case.own { first = record { rd = v.rd; value = v.value } })
     → IsTrue r ↔ AgreesWithOwn needs arch case left → IsTrue r ↔ IsAskedOf needs arch case (record { w = w; m = m; d = d }) (record { w = v; m = m; d = d })
 unfolding with_first
@@ -106,18 +97,18 @@ record IsKept (needs : Needs) (arch : ArchState) (w : ResultLatch) (m : Executed
   change : below ≡ change_of arch.image (action_of n) (state_of arch).memory
   reached : case.reached ≡ true
   goes : below.end ≡ None
-  same : SameOperands w n d below.write.value case
+  same : SameOperands w d below.write case
 
 end_is : (image : LoadedImage) (n : ExecutedLatch) (memory : ℕ → ℕ) (below : Change) → below ≡ change_of image (action_of n) memory
-    → (end_of (action_of n) ≡ below.end) × (below.write.value ≡ given image (action_of n) memory)
+    → end_of (action_of n) ≡ below.end
 unfolding change_of
-end_is image n memory below e = rw e (refl, refl)
+end_is image n memory below e = rw e refl
 
 kept_completed : (needs : Needs) (arch : ArchState) (w : ResultLatch) (m : ExecutedLatch) (d : DecodedLatch) (case : Case) (n : ExecutedLatch) (below : Change)
     → IsKept needs arch w m d case n below → is_completed n d case.npc ≡ true
 kept_completed needs arch w m d case n below k =
     goes_on d.valid (d.pc == case.npc) (end_of (action_of m)) (end_of (action_of n)) (sym k.is.reached ∙ k.reached)
-    ((end_is arch.image n (state_of arch).memory below k.change).0 ∙ k.goes)
+    (end_is arch.image n (state_of arch).memory below k.change ∙ k.goes)
 
 own_first : (image : LoadedImage) (first : Write) (below : Change) (doing : Doing) (memory : ℕ → ℕ) (own : Aftermath) → own ≡ left_by image first below doing memory → own.first ≡ first
 unfolding left_by
@@ -129,7 +120,7 @@ kept_left : (needs : Needs) (arch : ArchState) (w : ResultLatch) (m : ExecutedLa
 kept_left needs arch w m d case n below k =
     let memory = (state_of arch).memory in
     let first = own_first arch.image _ _ case.doing memory case.own (own_is needs arch w m d case k.is k.reached) in
-    let doing = doing_same needs arch w m d case w n below.write.value k.is ((end_is arch.image n memory below k.change).1) k.same in
+    let doing = doing_same needs arch w m d case w n below.write k.is (write_of_change arch.image (action_of n) memory below k.change) k.same in
     ap (λ (f : Write). left_by arch.image f below case.doing memory) first
     ∙ ap (λ (c : Change). left_by arch.image (record { rd = w.rd; value = w.value }) c case.doing memory) k.change
     ∙ ap (λ (z : Doing). left_by arch.image (record { rd = w.rd; value = w.value }) (change_of arch.image (action_of n) memory) z memory) (sym doing)
@@ -145,7 +136,7 @@ kept_clock needs arch w m d case n below k =
 
 pub kept_exactly : (needs : Needs) (arch : ArchState) (w : ResultLatch) (m : ExecutedLatch) (d : DecodedLatch) (case : Case) (n : ExecutedLatch) (below : Change) (r : Bool)
     → IsCase needs arch w m d case → below ≡ change_of arch.image (action_of n) (state_of arch).memory → case.reached ≡ true → below.end ≡ None
-    → SameOperands w n d below.write.value case → case.reads_clock ≡ false
+    → SameOperands w d below.write case → case.reads_clock ≡ false
     → IsTrue r ↔ AgreesWithOwn needs arch case (left_by arch.image case.own.first below case.doing (state_of arch).memory)
     → IsTrue r ↔ IsAskedOf needs arch case (record { w = w; m = m; d = d }) (record { w = w; m = n; d = d })
 kept_exactly needs arch w m d case n below r is change on goes same unread h =
@@ -156,7 +147,7 @@ kept_exactly needs arch w m d case n below r is change on goes same unread h =
 
 pub kept_never : (needs : Needs) (arch : ArchState) (w : ResultLatch) (m : ExecutedLatch) (d : DecodedLatch) (case : Case) (n : ExecutedLatch) (below : Change)
     → IsCase needs arch w m d case → below ≡ change_of arch.image (action_of n) (state_of arch).memory → case.reached ≡ true → below.end ≡ None
-    → SameOperands w n d below.write.value case → case.reads_clock ≡ true
+    → SameOperands w d below.write case → case.reads_clock ≡ true
     → IsTrue false ↔ IsAskedOf needs arch case (record { w = w; m = m; d = d }) (record { w = w; m = n; d = d })
 kept_never needs arch w m d case n below is change on goes same reads =
     let k : IsKept needs arch w m d case n below = record { is = is; change = change; reached = on; goes = goes; same = same } in

@@ -14,7 +14,7 @@ ghost use Rattle.eval_mask.specs.LatchMasks.{IsMasked, Latches, base_of};
 use crate::compare::{Known, agree, known_needs, same_word};
 use crate::completing::{
     Aftermath, Change, Doing, Write, completed, doing_of, executed_change, is_completed, left_by,
-    operand_held,
+    operand_after,
 };
 use need_pass::NeedTable;
 use pipe_latch::{ExMem, IdEx, MemWb};
@@ -99,10 +99,10 @@ pub fn case_of(
         first_after,
         reads_clock: reads_clock(m, d, npc),
         reached: is_completed(m, d, npc),
-        doing: doing_of(w, m, d, below.write.value, issued, arch.image()),
+        doing: doing_of(w, d, &below.write, issued, arch.image()),
         own,
-        a: operand_held(d.rs1, d.a, m, w, below.write.value),
-        held: operand_held(d.rs2, d.b, m, w, below.write.value),
+        a: operand_after(&own.below.write, w, d.rs1, d.a),
+        held: operand_after(&own.below.write, w, d.rs2, d.b),
         known: known_needs(needs, first_after, &own),
     }
 }
@@ -197,26 +197,26 @@ pub fn is_doing_alike(arch: &Arch<'_>, needs: &NeedTable, case: &Case, doing: &D
     same_left(arch, needs, case, &left)
 }
 
-/// Whether ID/EX has the same operands as in the case, where MEM/WB, or EX/MEM with the value that it writes, is flipped.
-fn same_operands(case: &Case, w: &MemWb, m: &ExMem, d: &IdEx, awaited: u32) -> bool
-    ensures { IsTrue result → spec.SameOperands w.now m.now d.now awaited case.now }
+/// Whether ID/EX has the same operands as in the case, where EX/MEM writes `below`.
+fn same_operands(case: &Case, w: &MemWb, d: &IdEx, below: &Write) -> bool
+    ensures { IsTrue result → spec.SameOperands w.now d.now below.now case.now }
 {
-    operand_held(d.rs1, d.a, m, w, awaited) == case.a
-        && operand_held(d.rs2, d.b, m, w, awaited) == case.held
+    operand_after(below, w, d.rs1, d.a) == case.a
+        && operand_after(below, w, d.rs2, d.b) == case.held
 }
 
 /// Whether ID/EX isn't completed, or has the same operands with other contents of MEM/WB.
-pub fn is_unmoved(case: &Case, w: &MemWb, m: &ExMem, d: &IdEx) -> bool
-    ensures { IsTrue result → case.now.reached ≡ true → spec.SameOperands w.now m.now d.now case.now.own.below.write.value case.now }
+pub fn is_unmoved(case: &Case, w: &MemWb, d: &IdEx) -> bool
+    ensures { IsTrue result → case.now.reached ≡ true → spec.SameOperands w.now d.now case.now.own.below.write case.now }
 {
-    !case.reached || same_operands(case, w, m, d, case.own.below.write.value)
+    !case.reached || same_operands(case, w, d, &case.own.below.write)
 }
 
 /// Whether ID/EX is completed with the same operands with other contents of EX/MEM, which change `below`.
-pub fn is_kept(case: &Case, w: &MemWb, m: &ExMem, d: &IdEx, below: &Change) -> bool
+pub fn is_kept(case: &Case, w: &MemWb, d: &IdEx, below: &Change) -> bool
     ensures reached { IsTrue result → case.now.reached ≡ true }
     ensures goes_on { IsTrue result → below.now.end ≡ None }
-    ensures operands { IsTrue result → spec.SameOperands w.now m.now d.now below.now.write.value case.now }
+    ensures operands { IsTrue result → spec.SameOperands w.now d.now below.now.write case.now }
 {
-    case.reached && below.end.is_none() && same_operands(case, w, m, d, below.write.value)
+    case.reached && below.end.is_none() && same_operands(case, w, d, &below.write)
 }

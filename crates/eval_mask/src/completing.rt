@@ -2,20 +2,23 @@
 ghost use Rattle.std.specs.Prelude.{◌≡◌, ℕ, ◌<◌};
 ghost use Rattle.rv_table.specs.Accesses as accesses;
 ghost use Rattle.rv_table.specs.Actions.{next_address};
+ghost use Rattle.rv_table.specs.Arithmetic.{alu};
 ghost use Rattle.rv_isa.specs.Architecture.{state_of};
 ghost use Rattle.rv_isa.specs.Instruction as step;
 ghost use Rattle.rv_isa.specs.Instruction.{action_in};
-ghost use Rattle.pipe_latch.specs.Forwarding as forwarding;
 ghost use Rattle.pipe_latch.specs.LatchedActions.{action_of};
-ghost use Rattle.pipe_latch.specs.Latches.{op_of_latch};
+ghost use Rattle.pipe_latch.specs.Latches.{ExecutedLatch, op_of_latch};
 ghost use Rattle.eval_mask.specs.Aftermaths as spec;
 ghost use Rattle.eval_mask.specs.Aftermaths.{memory_after, registers_after, stored_over, written};
 
 use avf_base::End;
 use elf_load::Image;
-use pipe_latch::{ExMem, Forwarded, IdEx, MemWb, execute, operand};
+use pipe_latch::{ExMem, IdEx, MemWb, execute};
 use rv_isa::{Arch, byte_put, end_of, written_register};
-use rv_table::{Action, LoadKind, StoreKind, asked, loaded, next_address, with_counter};
+use rv_table::{
+    Action, AluKind, LoadKind, Operation, StoreKind, alu, asked, loaded, next_address,
+    operation_of, with_counter,
+};
 
 /// A write of a register; register 0 is none.
 #[derive(Clone, Copy, PartialEq, Eq, Debug)]
@@ -207,13 +210,19 @@ fn change_of(arch: &Arch<'_>, under: &Option<Store>, action: &Action) -> Change
     }
 }
 
-/// An operand that ID/EX holds, with what completing EX/MEM writes where it must be waited for.
-pub fn operand_held(rs: u8, held: u32, m: &ExMem, w: &MemWb, awaited: u32) -> u32
-    ensures { result ≡ forwarding.settled (forwarding.operand (action_of m.now) w.now rs held) awaited }
+/// An operand that ID/EX holds, once EX/MEM has written `below` and MEM/WB what it holds: EX/MEM is younger, and register 0 is
+/// never forwarded.
+pub fn operand_after(below: &Write, w: &MemWb, rs: u8, held: u32) -> u32
+    ensures { result ≡ spec.operand_after below.now w.now rs held }
 {
-    match operand(rs, held, m, w) {
-        Forwarded::Value(value) => value,
-        Forwarded::Wait => awaited,
+    if rs == 0 {
+        held
+    } else if rs == below.rd {
+        below.value
+    } else if rs == w.rd {
+        w.value
+    } else {
+        held
     }
 }
 
@@ -254,18 +263,64 @@ pub fn is_completed(m: &ExMem, d: &IdEx, npc: u32) -> bool
     d.valid && (end_of(&m.action()).is_none() && d.pc == npc)
 }
 
-/// What the instruction in ID/EX does. `awaited` is the value that EX/MEM writes, `issued` the number of instructions before it.
-#[tactic(auto, unfolding(crate::specs::Aftermaths::doing_of))]
-pub fn doing_of(w: &MemWb, m: &ExMem, d: &IdEx, awaited: u32, issued: u32, image: &Image) -> Doing
-    ensures { (memory : ℕ → ℕ) → awaited ≡ step.given image.now (action_of m.now) memory → result ≡ spec.doing_of image.now w.now m.now d.now memory issued }
+/// What the instruction in ID/EX does with operands a and `held`, the second before a counter takes its place. `issued` is the number
+/// of instructions before it.
+#[tactic(auto, unfolding(crate::specs::Aftermaths::doing_with))]
+fn any_doing(d: &IdEx, a: u32, held: u32, issued: u32, image: &Image) -> Doing
+    ensures { result ≡ spec.doing_with image.now d.now issued a held }
 {
-    let a = operand_held(d.rs1, d.a, m, w, awaited);
-    let held = operand_held(d.rs2, d.b, m, w, awaited);
     let b = with_counter(&d.instruction(), 0, issued, held);
     Doing {
         action: decoded_action(d, a, b, image),
         next: decoded_next(d, a, b),
     }
+}
+
+/// Writes a value into the register that ID/EX names and goes on.
+fn plain_doing(d: &IdEx, value: u32) -> Doing
+    ensures { result ≡ spec.plain_doing d.now value }
+{
+    Doing {
+        action: Action::Writes { rd: d.rd, value },
+        next: (d.pc + 1) % 0x4000_0000,
+    }
+}
+
+/// The same with the result of the immediate and operand a.
+fn immediate_doing(d: &IdEx, kind: AluKind, a: u32) -> Doing
+    ensures { result ≡ spec.plain_doing d.now (alu kind a d.now.imm) }
+{
+    plain_doing(d, alu(kind, a, d.imm))
+}
+
+/// The same as `any_doing`, quickly for most instructions.
+#[tactic(auto, using(crate::proofs::Completed::plain_doings))]
+fn doing_with(d: &IdEx, a: u32, held: u32, issued: u32, image: &Image) -> Doing
+    ensures { result ≡ spec.doing_with image.now d.now issued a held }
+{
+    match operation_of(d.op) {
+        Operation::Lui => plain_doing(d, d.imm),
+        Operation::AluImmediate(kind) => immediate_doing(d, kind, a),
+        Operation::Alu(kind) => plain_doing(d, alu(kind, a, held)),
+        _ => any_doing(d, a, held, issued, image),
+    }
+}
+
+/// What the instruction in ID/EX does, once EX/MEM has written `below` and MEM/WB what it holds. `issued` is the number of
+/// instructions before it.
+fn doing_after(w: &MemWb, d: &IdEx, below: &Write, issued: u32, image: &Image) -> Doing
+    ensures { result ≡ spec.doing_after image.now w.now d.now below.now issued }
+{
+    let a = operand_after(below, w, d.rs1, d.a);
+    let held = operand_after(below, w, d.rs2, d.b);
+    doing_with(d, a, held, issued, image)
+}
+
+/// The same, where `below` is what EX/MEM writes.
+pub fn doing_of(w: &MemWb, d: &IdEx, below: &Write, issued: u32, image: &Image) -> Doing
+    ensures { (m : ExecutedLatch) → (memory : ℕ → ℕ) → below.now ≡ spec.write_by_action image.now (action_of m) memory → result ≡ spec.doing_of image.now w.now m d.now memory issued }
+{
+    doing_after(w, d, below, issued, image)
 }
 
 /// What is left of MEM/WB's write, what EX/MEM changes, and what ID/EX does, over the memory of `arch`.
@@ -299,7 +354,7 @@ pub fn completed(
 {
     let first = write_held(w);
     if is_completed(m, d, npc) {
-        let doing = doing_of(w, m, d, below.write.value, issued, arch.image());
+        let doing = doing_of(w, d, &below.write, issued, arch.image());
         return left_by(arch, &first, below, &doing);
     }
     Aftermath {

@@ -38,8 +38,13 @@ fn decoded_bit(
     if is_clocked(&flipped.instruction()) {
         return false;
     }
-    let awaited = case.own.below.write.value;
-    let doing = doing_of(w, m, &flipped, awaited, case.issued, arch.image());
+    let doing = doing_of(
+        w,
+        &flipped,
+        &case.own.below.write,
+        case.issued,
+        arch.image(),
+    );
     is_doing_alike(arch, needs, case, &doing)
 }
 

@@ -46,7 +46,7 @@ fn executed_bit(
         return !case.reads_clock;
     }
     let below = executed_change(arch, &flipped);
-    if !is_kept(case, w, &flipped, d, &below) {
+    if !is_kept(case, w, d, &below) {
         return is_masked(&below, w, &flipped, d, arch, needs, case);
     }
     if case.reads_clock {
@@ -78,7 +78,7 @@ fn written_bit(
 {
     let mut flipped = *w;
     flipped.flip(k);
-    if !is_unmoved(case, &flipped, m, d) {
+    if !is_unmoved(case, &flipped, d) {
         return is_masked(&case.own.below, &flipped, m, d, arch, needs, case);
     }
     if case.reads_clock {

@@ -3,7 +3,7 @@ use Rattle.rv_isa.specs.Architecture.{state_of}
 use Rattle.eval_mask.proofs.Doings.{doing_exactly, doing_never, own_left}
 use Rattle.eval_mask.proofs.Fields.{decoded_inside, flip_keeps}
 use Rattle.eval_mask.proofs.Masked.{decoded_exactly}
-use Rattle.eval_mask.proofs.OwnChange.{own_awaited}
+use Rattle.eval_mask.proofs.OwnChange.{own_write}
 use Rattle.eval_mask.proofs.decoded.decoded_bit.Goals as goal
 
 pub returns-then-not-case : goal.returns-then-not-case
@@ -36,7 +36,7 @@ returns c =
     let k = c.args.k in
     let doing =
     rw c.image.ensures at
-    (c.doing_of-doing.ensures (state_of arch).memory (rw c.image.ensures (own_awaited needs arch w m d case c.requires.case))) in
+    (c.doing_of-doing.ensures m (state_of arch).memory (rw c.image.ensures (own_write needs arch w m d case c.requires.case))) in
     decoded_exactly needs arch w m d case k c.is_doing_alike.result c.requires.case c.requires.on_path
     (decoded_inside k c.requires.from c.requires.to)
     (rw c.flip.ensures at
