@@ -4,7 +4,7 @@ mod OnPath
 mod Judged
 mod Noted
 mod Walked
-mod Told
+pub mod Told
 mod AccessedAgain
 mod HeldLines
 mod LineClass
@@ -28,4 +28,3 @@ mod FetchedPlaces
 mod FetchedMasks
 mod FetchedClasses
 mod KnownMoments
-mod ClassNumbers
