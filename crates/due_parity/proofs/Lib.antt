@@ -1,13 +1,11 @@
-mod BytesRead
 mod DataCycles
 mod DataMoves
 mod Decided
 mod Grown
-mod Lists
-mod Moves
-mod OtherBytes
-mod OtherCache
+mod Ranges
 mod RegisterCycles
 mod Runs
 mod Said
+mod Stretched
+mod Totals
 mod Watching
