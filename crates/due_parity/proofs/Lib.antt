@@ -2,10 +2,12 @@ mod DataCycles
 mod DataMoves
 mod Decided
 mod Grown
+mod Passed
 mod Ranges
 mod RegisterCycles
 mod Runs
 mod Said
 mod Stretched
+mod Tabled
 mod Totals
 mod Watching

@@ -1,7 +1,7 @@
 -- Counts of the pairs of a bit and a cycle by what becomes of a flip. A detected pair that is ACE is a true detection. One that is un-ACE
 -- is a false one: it stops a run that the flip would not have harmed.
-use Rattle.std.specs.Prelude.{◌≡◌, ◌≤◌, ◌<◌, ◌-◌, ℕ, Bool, true, false, sum_by, count_by}
-use Rattle.std.specs.List.{range_with_len}
+use Rattle.std.specs.Prelude.{◌≡◌, ◌<◌, ◌+◌, ℕ, zero, suc, Bool, true, false}
+use Rattle.bit_field.specs.Layouts.{number_of}
 use Rattle.bit_field.specs.Shapes.{bits_in}
 use Rattle.bit_field.specs.declared.places.Place.{Place}
 use Rattle.bit_field.specs.declared.places.Structure.{Structure}
@@ -31,12 +31,17 @@ is_quiet Quiet = true
 abbrev pub place : Structure → ℕ → Place
 place structure bit = record { structure = structure; bit = bit }
 
+-- f a + f (a + 1) + .., n numbers
+unfoldable pub sum_from : ℕ → ℕ → (ℕ → ℕ) → ℕ
+sum_from a zero f = 0
+sum_from a (suc n) f = f a + sum_from (a + 1) n f
+
 -- how many of n numbers from a on pass a test, and how many pairs of a bit and a cycle do
 abbrev pub count_from : ℕ → ℕ → (ℕ → Bool) → ℕ
-count_from a n test = count_by test (range_with_len a n)
+count_from a n test = sum_from a n (λ t. number_of (test t))
 
 abbrev pub count_pairs : ℕ → ℕ → (ℕ → ℕ → Bool) → ℕ
-count_pairs bits cycles test = sum_by (λ k. count_from 0 cycles (test k)) (range_with_len 0 bits)
+count_pairs bits cycles test = sum_from 0 bits (λ k. count_from 0 cycles (test k))
 
 -- The counts of the first so many bits of a structure. `classes` has the class of each pair that is detected.
 pub record CountsBits (story : Story) (s : Structure) (bits : ℕ) (counts : DueCounts) : Type 0 where

@@ -1,5 +1,5 @@
 // The pairs of a bit and a cycle by what becomes of a flip.
-ghost use Rattle.std.specs.Prelude.{◌≡◌, ◌+◌, ◌*◌, ◌<◌, ◌≤◌, ◌-◌, ◌^◌};
+ghost use Rattle.std.specs.Prelude.{◌≡◌, ◌+◌, ◌*◌, ◌<◌, ◌≤◌, ◌-◌, ◌^◌, if◌then◌else◌};
 ghost use Rattle.bit_field.specs.Shapes as shapes;
 ghost use Rattle.bit_field.specs.Shapes.{IsPlaceIn};
 ghost use Rattle.due_parity.specs.Due.{IsDue};
