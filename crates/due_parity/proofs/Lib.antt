@@ -2,6 +2,7 @@ mod DataCycles
 mod DataMoves
 mod Decided
 mod Grown
+mod OneClass
 mod Passed
 mod Ranges
 mod RegisterCycles

@@ -7,7 +7,7 @@ use Rattle.ace_class.specs.declared.class.Class.{Class}
 use Rattle.ace_class.specs.declared.class.Class.TheVariants.{Ace, UnAce}
 use Rattle.ace_law.specs.Classes.{IsClass}
 use Rattle.ace_rules.specs.Notes.{Story, moment}
-use Rattle.due_parity.specs.Due.{count_from, is_false_due, is_quiet, is_true_due}
+use Rattle.due_parity.specs.Due.{count_from, is_false_due, is_quiet, is_true_due, sum_from}
 use Rattle.due_parity.specs.Fates.{fate}
 use Rattle.due_parity.specs.Stretches.{AreDetected, CountsCycles, HasAce, all_of, is_ace, no_pairs, plus}
 use Rattle.due_parity.specs.declared.counting.DueCounts.{DueCounts}
@@ -46,6 +46,7 @@ module _ (story : Story) (p : Place) where
   -- ---- one class after another
 
   pub no-ace : (from : ℕ) → HasAce story p from from 0
+  unfolding sum_from
   no-ace from = record {
     classes = λ t. Ace;
     are = λ t l m. absurd (omega (arith, l, m));
@@ -113,6 +114,7 @@ module _ (story : Story) (p : Place) where
   -- ---- one stretch after another
 
   pub nothing : CountsCycles story p 0 0 no_pairs
+  unfolding sum_from
   nothing = record { classes = λ t. Ace; are = λ t c l m e. absurd (omega (arith, m)); true_due = refl; false_due = refl; quiet = refl }
 
   pub joined : (a b c : ℕ) (first second : DueCounts) → a ≤ b → b ≤ c → CountsCycles story p a b first → CountsCycles story p b c second

@@ -6,7 +6,7 @@ use Rattle.ace_class.specs.declared.class.Class.{Class}
 use Rattle.ace_class.specs.declared.class.Class.TheVariants.{Ace}
 use Rattle.ace_law.specs.Classes.{IsClass}
 use Rattle.ace_rules.specs.Notes.{Story, moment}
-use Rattle.due_parity.specs.Due.{CountsBits, count_from, count_pairs, is_false_due, is_quiet, is_true_due, place}
+use Rattle.due_parity.specs.Due.{CountsBits, count_from, count_pairs, is_false_due, is_quiet, is_true_due, place, sum_from}
 use Rattle.due_parity.specs.Fates.{fate}
 use Rattle.due_parity.specs.Stretches.{CountsCycles, all_of, no_pairs, plus}
 use Rattle.due_parity.specs.declared.counting.DueCounts.{DueCounts}
@@ -23,6 +23,7 @@ module _ (story : Story) (s : Structure) where
   cycles = story.r.cycles
 
   pub no-bits : CountsBits story s 0 no_pairs
+  unfolding sum_from
   no-bits = record { classes = λ k t. Ace; are = λ k t c l m e. absurd (omega (arith, l)); true_due = refl; false_due = refl; quiet = refl }
 
   -- a count by classes of which those of the last bit are others
