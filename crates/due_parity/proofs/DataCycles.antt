@@ -31,10 +31,10 @@ use Rattle.clean_lines.specs.CleanCycle.{SameCycle}
 use Rattle.due_parity.specs.StruckCycles.{StruckCycleBy}
 use Rattle.due_parity.specs.Touches.{byte_touch, byte_touch_by, byte_touch_with, is_dirty_slot}
 use Rattle.due_parity.specs.declared.touch.Touch.TheVariants.{Untouched, ReadOut, Renewed}
-use Rattle.due_parity.proofs.BytesRead.{ReadsAlike, served-alike}
+use Rattle.clean_lines.proofs.BytesRead.{ReadsAlike, served-alike}
 use Rattle.due_parity.proofs.DataMoves.{byte-off, memory-kept, read-kept, refilled-gone, refilled-kept, with_byte, written-gone, written-kept}
-use Rattle.due_parity.proofs.OtherBytes.{found-other, move-other}
-use Rattle.due_parity.proofs.OtherCache.{cycle-other, same-other}
+use Rattle.clean_lines.proofs.OtherBytes.{found-other, move-other}
+use Rattle.clean_lines.proofs.OtherCache.{cycle-other, same-other}
 
 -- the lanes of a word of a slot that is another one, or of another word, or that don't name the byte
 off-lanes : (slot l word byte mask lane : ℕ) → (slot == l && (word == byte / 4 && has_lane mask (byte % 4))) ≡ false → lane < 4

@@ -19,8 +19,8 @@ use Rattle.wb_cache.proofs.Hits.{read-hit, written-hit}
 use Rattle.wb_cache.proofs.Ram.{length-line_bytes}
 use Rattle.wb_cache.proofs.Sizes.{set_below, slot_below}
 use Rattle.wb_cache.proofs.Victims.{victim-below}
-use Rattle.due_parity.proofs.Lists.{not_back, put_word-off, put_word-on, range-off, replace-off, replace-on}
-use Rattle.due_parity.proofs.OtherBytes.{found-other, way_for-other}
+use Rattle.clean_lines.proofs.Lists.{put_word-off, put_word-on, range-off, replace-off, replace-on}
+use Rattle.clean_lines.proofs.OtherBytes.{found-other, way_for-other}
 
 -- the contents with byte `byte` of slot l set
 abbrev pub with_byte : Contents → ℕ → ℕ → ℕ → Contents
@@ -99,8 +99,7 @@ module _ (image : LoadedImage) (memory : List ℕ) (c : Contents) (l byte x : �
       go : (slot_of c.shape set way ≡ l) ⊎ (slot_of c.shape set way ≢ l) → written_back image set way d memory ≡ written_back image set way c memory
       go (inl e) =
           let none : goes_back (slot_of c.shape set way) ≡ false = ap goes_back e ∙ stays e in
-          unfold written_back in (not_back (goes_back (slot_of c.shape set way)) _ memory none
-          ∙ sym (not_back (goes_back (slot_of c.shape set way)) _ memory none))
+          unfold written_back in rw none refl
       go (inr ne) =
           unfold written_back in ap (λ (bs : List ℕ). cond
           (slice_index_or c.valid (slot_of c.shape set way) false && slice_index_or c.dirty (slot_of c.shape set way) false)

@@ -1,5 +1,5 @@
 -- The fate of a flip by the touches of its group: the first of them decides, and lists of notes tell it.
-use Rattle.std.proofs.Common.{◌≡◌, ℕ, zero, suc, ◌+◌, ◌-◌, ◌<◌, ◌≤◌, Bool, true, false, List, [], ◌∷◌, ◌++◌, length, refl, sym, ◌∙◌, ap, arith, append_assoc, append-nil, subst}
+use Rattle.std.proofs.Common.{◌≡◌, ℕ, zero, suc, ◌+◌, ◌-◌, ◌<◌, ◌≤◌, Bool, true, false, List, [], ◌∷◌, ◌++◌, length, get_or, refl, sym, ◌∙◌, ap, arith, append_assoc, append-nil, subst}
 use Rattle.std.specs.Prelude.{All, Option, Some, None, find, nat_le, nat_lt, if◌then◌else◌}
 use Rattle.std.proofs.lemmas.Bool.Decides.{nat_tests}
 use Rattle.std.proofs.lemmas.List.Elements.{All-nil, All-push}
@@ -127,3 +127,25 @@ module _ (touches : ℕ → Touch) where
       ap (fate_in t) (split (cycles - t) t cycles (omega (arith, l)))
       ∙ fate-behind t (noted_below touches t) (notes_from t (cycles - t)) (below t t (omega arith))
       ∙ from-notes (cycles - t) t t (omega arith)
+
+-- ---- the note that decides
+
+-- note i is the first that doesn't come before cycle t
+pub fate-at : (t : ℕ) (xs : List Noted) (i : ℕ) (d : Noted) → i < length xs → ((j : ℕ) → j < i → (get_or xs j d).cycle < t) → t ≤ (get_or xs i d).cycle
+    → fate_in t xs ≡ fate_of (get_or xs i d)
+unfolding fate_in
+fate-at t [] i d l early late = absurd (omega (arith, l))
+fate-at t (x ∷ xs) zero d l early late = let f : nat_lt x.cycle t ≡ false = grind (arith, nat_tests) in rw f refl
+fate-at t (x ∷ xs) (suc i) d l early late =
+    let b : x.cycle < t = early 0 (omega arith) in
+    let f : nat_lt x.cycle t ≡ true = grind (arith, nat_tests) in
+    rw f (fate-at t xs i d (omega (arith, l)) (λ j m. early (suc j) (omega (arith, m))) late)
+
+-- all notes come before it
+pub fate-past : (t : ℕ) (xs : List Noted) (d : Noted) → ((j : ℕ) → j < length xs → (get_or xs j d).cycle < t) → fate_in t xs ≡ Quiet
+unfolding fate_in
+fate-past t [] d early = refl
+fate-past t (x ∷ xs) d early =
+    let b : x.cycle < t = early 0 (omega arith) in
+    let f : nat_lt x.cycle t ≡ true = grind (arith, nat_tests) in
+    rw f (fate-past t xs d (λ j m. early (suc j) (omega (arith, m))))

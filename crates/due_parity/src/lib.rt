@@ -2,6 +2,7 @@
 #![tactic(auto)]
 
 mod bytes;
+mod counting;
 mod fate;
 mod laws;
 mod registers;
@@ -9,7 +10,8 @@ mod table;
 mod touch;
 mod watched;
 
+pub use counting::{DueCounts, due};
 pub use fate::Fate;
 pub use laws::parity_law;
-pub use table::{FateTable, watch_run};
+pub use table::{FateTable, watch};
 pub use touch::Touch;

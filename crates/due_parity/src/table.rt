@@ -10,6 +10,7 @@ use crate::bytes::note_event;
 use crate::fate::Fate;
 use crate::registers::{decoding_of, note_registers, op_taken};
 use crate::watched::Watched;
+use ace_rules::Analysis;
 use avf_base::{OutOfMemory, Steps};
 use bit_field::{Place, Structure};
 use cyc_machine::{Machine, REGISTERS};
@@ -36,6 +37,22 @@ impl Model for FateTable {
 }
 
 impl FateTable {
+    /// What becomes of a flip of the bit at a place before a cycle of the run that the table is of, and what that says of the flipped run.
+    /// Where it is quiet, the flipped run has the recorded number of cycles, output and end. Where it is detected, the flip is still the
+    /// only difference before the cycle that detects it, and no cycle before that was seen unlike. It takes no memory.
+    pub fn fate(&self, a: &Analysis<'_>, place: &Place, cycle: u32) -> Fate
+        requires table { IsTable a.now.r self.now }
+        requires protected { IsProtected place.now.structure }
+        requires place { IsPlaceIn a.now.r.shape place.now }
+        requires cycle { cycle < a.now.r.cycles }
+        ensures exact { result ≡ fates.fate a.now.r place.now cycle }
+        ensures says { Says a.now.r place.now cycle result }
+    {
+        a.recorded().is_record();
+        a.recorded().image().is_image();
+        self.row(place).fate(cycle)
+    }
+
     /// The touches of the group of the bit at a place.
     pub fn row(&self, place: &Place) -> &Watched
         requires protected { IsProtected place.now.structure }
@@ -47,6 +64,18 @@ impl FateTable {
             _ => &self.bytes[(place.bit / 8) as usize],
         }
     }
+}
+
+/// The touches of every group in the run of an analysis. It takes as many steps of a machine as the run has cycles.
+pub fn watch<L: Ledger>(
+    alloc: Global,
+    a: &Analysis<'_>,
+    steps: &mut Steps<L>,
+) -> Result<FateTable, OutOfMemory>
+    ensures table { IfOk result (λ table. IsTable a.now.r table) }
+    ensures steps { steps.new ≤ steps.old + a.now.r.cycles }
+{
+    watch_run(alloc, a.recorded(), steps)
 }
 
 /// So many lists without a touch.
@@ -61,7 +90,7 @@ fn no_touches(alloc: Global, count: u32) -> Result<Vec<Watched>, OutOfMemory>
 }
 
 /// The touches of every group in a recorded run, by a machine that goes from reset as the recorded one went.
-pub fn watch_run<L: Ledger>(
+fn watch_run<L: Ledger>(
     alloc: Global,
     recorded: &Recorded<'_>,
     steps: &mut Steps<L>,
