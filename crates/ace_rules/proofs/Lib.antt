@@ -28,3 +28,8 @@ mod FetchedPlaces
 mod FetchedMasks
 mod FetchedClasses
 mod KnownMoments
+pub mod OneClass
+pub mod Sums
+pub mod Tallies
+mod Popcounts
+mod FirstMasks

@@ -7,3 +7,6 @@ pub mod Asked
 pub mod Lines
 pub mod LineData
 pub mod Analyses
+pub mod Sums
+pub mod Tallies
+pub mod RuleMasks

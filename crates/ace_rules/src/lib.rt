@@ -24,6 +24,7 @@ mod note;
 mod path;
 mod pending;
 mod registers;
+mod tally;
 mod timing;
 mod walk;
 mod words;

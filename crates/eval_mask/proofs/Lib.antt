@@ -1,12 +1,15 @@
 pub mod Agreeing
 pub mod Completed
 pub mod Differences
+pub mod Doings
 pub mod EffectsTold
 pub mod Fields
 pub mod MaskLoops
 pub mod Masked
+pub mod Moved
 pub mod OwnChange
 pub mod Puts
+pub mod Rows
 pub mod Seeming
 pub mod UnderLog
 pub mod UnreadBits

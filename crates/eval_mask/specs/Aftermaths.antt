@@ -1,5 +1,5 @@
 -- What completed instructions leave, told by what they change: the writes and stores that they make, one over the other.
-use Rattle.std.specs.Prelude.{ℕ, ◌/◌, ◌==◌, ◌&&◌, ◌≡◌, is_none, List, [], Option, Some, None, if◌then◌else◌}
+use Rattle.std.specs.Prelude.{ℕ, Bool, ◌/◌, ◌==◌, ◌&&◌, ◌≡◌, is_none, List, [], Option, Some, None, if◌then◌else◌}
 use Rattle.elf_load.specs.Image.{LoadedImage, word_in_ram}
 use Rattle.rv_table.specs.Accesses.{stored}
 use Rattle.rv_table.specs.Actions.{next_address, with_counter}
@@ -13,6 +13,7 @@ use Rattle.cyc_machine.specs.InFlight.{operand_held}
 use Rattle.eval_mask.specs.declared.completing.Write.{Write}
 use Rattle.eval_mask.specs.declared.completing.Store.{Store}
 use Rattle.eval_mask.specs.declared.completing.Change.{Change}
+use Rattle.eval_mask.specs.declared.completing.Doing.{Doing}
 use Rattle.eval_mask.specs.declared.completing.Aftermath.{Aftermath}
 
 -- registers with a write, and memory with a store
@@ -28,6 +29,10 @@ abbrev pub store_by : LoadedImage → Action → Option Store
 store_by image (Stores kind x y) = if word_in_ram image (x / 4) then Some (record { kind = kind; address = x; value = y }) else None
 store_by image _ = None
 
+-- the write that MEM/WB holds
+abbrev pub write_held : ResultLatch → Write
+write_held w = record { rd = w.rd; value = w.value }
+
 -- what an action changes, over this memory
 unfoldable pub change_of : LoadedImage → Action → (ℕ → ℕ) → Change
 change_of image done memory =
@@ -41,29 +46,37 @@ change_of image done memory =
 abbrev pub no_change : Change
 no_change = record { write = record { rd = 0; value = 0 }; store = None; put = None; end = None }
 
+-- ID/EX is completed: it is occupied, at the address that comes next, and EX/MEM doesn't end the run
+abbrev pub is_completed : ExecutedLatch → DecodedLatch → ℕ → Bool
+is_completed m d npc = d.valid && (is_none (end_of (action_of m)) && d.pc == npc)
+
+-- what the instruction in ID/EX does, over memory before EX/MEM, with x instructions before it
+unfoldable pub doing_of : LoadedImage → ResultLatch → ExecutedLatch → DecodedLatch → (ℕ → ℕ) → ℕ → Doing
+doing_of image w m d memory x =
+    let a = operand_held image (action_of m) w memory d.rs1 d.a in
+    let b = with_counter (op_of_latch d) 0 x (operand_held image (action_of m) w memory d.rs2 d.b) in
+    record { action = action_in image (op_of_latch d) d.pc a b; next = next_address (op_of_latch d) d.pc a b }
+
+-- what is left of MEM/WB's write, what EX/MEM changes, and what ID/EX does
+unfoldable pub left_by : LoadedImage → Write → Change → Doing → (ℕ → ℕ) → Aftermath
+left_by image first below doing memory =
+    record {
+      first = first;
+      below = below;
+      above = change_of image doing.action (stored_over below.store memory);
+      pc = doing.next;
+      end = end_of doing.action;
+    }
+
 -- what completing MEM/WB, EX/MEM and a reached ID/EX leaves, over this memory; npc is the address that comes next and x the
 -- number of instructions before it
 unfoldable pub aftermath_of : LoadedImage → ResultLatch → ExecutedLatch → DecodedLatch → (ℕ → ℕ) → ℕ → ℕ → Aftermath
 aftermath_of image w m d memory npc x =
+    let first = write_held w in
     let below = change_of image (action_of m) memory in
-    let a = operand_held image (action_of m) w memory d.rs1 d.a in
-    let b = with_counter (op_of_latch d) 0 x (operand_held image (action_of m) w memory d.rs2 d.b) in
-    let done = action_in image (op_of_latch d) d.pc a b in
-    if d.valid && (is_none (end_of (action_of m)) && d.pc == npc)
-    then record {
-      first = record { rd = w.rd; value = w.value };
-      below = below;
-      above = change_of image done (stored_over below.store memory);
-      pc = next_address (op_of_latch d) d.pc a b;
-      end = end_of done;
-    }
-    else record {
-      first = record { rd = w.rd; value = w.value };
-      below = below;
-      above = no_change;
-      pc = npc;
-      end = end_of (action_of m);
-    }
+    if is_completed m d npc
+    then left_by image first below (doing_of image w m d memory x) memory
+    else record { first = first; below = below; above = no_change; pc = npc; end = end_of (action_of m) }
 
 abbrev pub registers_after : Aftermath → (ℕ → ℕ) → ℕ → ℕ
 registers_after left registers = written left.above.write (written left.below.write (written left.first registers))

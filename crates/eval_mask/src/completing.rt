@@ -2,7 +2,6 @@
 ghost use Rattle.std.specs.Prelude.{◌≡◌, ℕ, ◌<◌};
 ghost use Rattle.rv_table.specs.Accesses as accesses;
 ghost use Rattle.rv_table.specs.Actions.{next_address};
-ghost use Rattle.rv_table.specs.Effects as effects;
 ghost use Rattle.rv_isa.specs.Architecture.{state_of};
 ghost use Rattle.rv_isa.specs.Instruction as step;
 ghost use Rattle.rv_isa.specs.Instruction.{action_in};
@@ -15,8 +14,8 @@ ghost use Rattle.eval_mask.specs.Aftermaths.{memory_after, registers_after, stor
 use avf_base::End;
 use elf_load::Image;
 use pipe_latch::{ExMem, Forwarded, IdEx, MemWb, execute, operand};
-use rv_isa::Arch;
-use rv_table::{Action, LoadKind, StoreKind, loaded, with_counter};
+use rv_isa::{Arch, byte_put, end_of, written_register};
+use rv_table::{Action, LoadKind, StoreKind, asked, loaded, next_address, with_counter};
 
 /// A write of a register; register 0 is none.
 #[derive(Clone, Copy, PartialEq, Eq, Debug)]
@@ -41,6 +40,13 @@ pub struct Change {
     /// The byte that it puts.
     pub put: Option<u8>,
     pub end: Option<End>,
+}
+
+/// What the instruction in ID/EX does, and the word address that comes after it.
+#[derive(Clone, Copy, PartialEq, Eq, Debug)]
+pub struct Doing {
+    pub action: Action,
+    pub next: u32,
 }
 
 /// What completed instructions leave.
@@ -160,15 +166,6 @@ fn given(arch: &Arch<'_>, under: &Option<Store>, action: &Action) -> u32
     }
 }
 
-fn written_register(action: &Action) -> u8
-    ensures { result ≡ effects.written_register action.now }
-{
-    match *action {
-        Action::Writes { rd, .. } | Action::Loads { rd, .. } => rd,
-        _ => 0,
-    }
-}
-
 /// The store that an action makes; one outside RAM is dropped.
 fn store_by(image: &Image, action: &Action) -> Option<Store>
     ensures { result ≡ spec.store_by image.now action.now }
@@ -183,26 +180,6 @@ fn store_by(image: &Image, action: &Action) -> Option<Store>
             address,
             value,
         }),
-        _ => None,
-    }
-}
-
-fn byte_put(action: &Action) -> Option<u8>
-    ensures { result ≡ effects.byte_put action.now }
-{
-    match *action {
-        Action::Puts(value) => Some((value % 256) as u8),
-        _ => None,
-    }
-}
-
-/// How an action ends the run.
-pub fn end_of(action: &Action) -> Option<End>
-    ensures { result ≡ step.end_of action.now }
-{
-    match *action {
-        Action::Exits(value) => Some(End::Exit((value % 256) as u8)),
-        Action::Traps(cause) => Some(End::Trap(cause)),
         _ => None,
     }
 }
@@ -231,7 +208,7 @@ fn change_of(arch: &Arch<'_>, under: &Option<Store>, action: &Action) -> Change
 }
 
 /// An operand that ID/EX holds, with what completing EX/MEM writes where it must be waited for.
-fn operand_held(rs: u8, held: u32, m: &ExMem, w: &MemWb, awaited: u32) -> u32
+pub fn operand_held(rs: u8, held: u32, m: &ExMem, w: &MemWb, awaited: u32) -> u32
     ensures { result ≡ forwarding.settled (forwarding.operand (action_of m.now) w.now rs held) awaited }
 {
     match operand(rs, held, m, w) {
@@ -241,19 +218,68 @@ fn operand_held(rs: u8, held: u32, m: &ExMem, w: &MemWb, awaited: u32) -> u32
 }
 
 /// What the instruction in ID/EX does with the operands a and b.
-#[tactic(auto, using(crate::proofs::Completed::executed_action))]
+#[tactic(auto, using(crate::proofs::Completed::executed_action), unfolding(rv_table::specs::Actions::action, rv_table::specs::Actions::judged, rv_table::specs::Actions::judged_by))]
 fn decoded_action(d: &IdEx, a: u32, b: u32, image: &Image) -> Action
     ensures { result ≡ action_in image.now (op_of_latch d.now) d.now.pc a b }
 {
-    execute(d, a, b, image).latch.action()
+    let action = asked(&d.instruction(), d.pc, a, b);
+    match action {
+        Action::Loads { address, .. } => action.judged(image.word_in_ram(address / 4), false),
+        Action::Stores { .. } => execute(d, a, b, image).latch.action(),
+        _ => action,
+    }
 }
 
 /// The word address that comes after the instruction in ID/EX.
-#[tactic(auto, unfolding(pipe_latch::specs::Execution::next_of))]
-fn decoded_next(d: &IdEx, a: u32, b: u32, image: &Image) -> u32
+fn decoded_next(d: &IdEx, a: u32, b: u32) -> u32
     ensures { result ≡ next_address (op_of_latch d.now) d.now.pc a b }
 {
-    execute(d, a, b, image).next
+    next_address(&d.instruction(), d.pc, a, b)
+}
+
+/// The write that MEM/WB holds.
+pub fn write_held(w: &MemWb) -> Write
+    ensures { result ≡ spec.write_held w.now }
+{
+    Write {
+        rd: w.rd,
+        value: w.value,
+    }
+}
+
+/// Whether ID/EX is completed: it is occupied, at the word address that comes next, and what EX/MEM does doesn't end the run.
+pub fn is_completed(m: &ExMem, d: &IdEx, npc: u32) -> bool
+    ensures { result ≡ spec.is_completed m.now d.now npc }
+{
+    d.valid && (end_of(&m.action()).is_none() && d.pc == npc)
+}
+
+/// What the instruction in ID/EX does. `awaited` is the value that EX/MEM writes, `issued` the number of instructions before it.
+#[tactic(auto, unfolding(crate::specs::Aftermaths::doing_of))]
+pub fn doing_of(w: &MemWb, m: &ExMem, d: &IdEx, awaited: u32, issued: u32, image: &Image) -> Doing
+    ensures { (memory : ℕ → ℕ) → awaited ≡ step.given image.now (action_of m.now) memory → result ≡ spec.doing_of image.now w.now m.now d.now memory issued }
+{
+    let a = operand_held(d.rs1, d.a, m, w, awaited);
+    let held = operand_held(d.rs2, d.b, m, w, awaited);
+    let b = with_counter(&d.instruction(), 0, issued, held);
+    Doing {
+        action: decoded_action(d, a, b, image),
+        next: decoded_next(d, a, b),
+    }
+}
+
+/// What is left of MEM/WB's write, what EX/MEM changes, and what ID/EX does, over the memory of `arch`.
+#[tactic(auto, unfolding(crate::specs::Aftermaths::left_by))]
+pub fn left_by(arch: &Arch<'_>, first: &Write, below: &Change, doing: &Doing) -> Aftermath
+    ensures { result ≡ spec.left_by arch.now.image first.now below.now doing.now (state_of arch.now).memory }
+{
+    Aftermath {
+        first: *first,
+        below: *below,
+        above: change_of(arch, &below.store, &doing.action),
+        pc: doing.next,
+        end: end_of(&doing.action),
+    }
 }
 
 /// What MEM/WB, EX/MEM and a reached ID/EX leave once they are completed over the memory of `arch`. `npc` is the word address that
@@ -271,29 +297,16 @@ pub fn completed(
     requires { below.now ≡ spec.change_of arch.now.image (action_of m.now) (state_of arch.now).memory }
     ensures { result ≡ spec.aftermath_of arch.now.image w.now m.now d.now (state_of arch.now).memory npc issued }
 {
-    let first = Write {
-        rd: w.rd,
-        value: w.value,
-    };
-    let below = *below;
-    if !(d.valid && below.end.is_none() && d.pc == npc) {
-        return Aftermath {
-            first,
-            below,
-            above: NO_CHANGE,
-            pc: npc,
-            end: below.end,
-        };
+    let first = write_held(w);
+    if is_completed(m, d, npc) {
+        let doing = doing_of(w, m, d, below.write.value, issued, arch.image());
+        return left_by(arch, &first, below, &doing);
     }
-    let a = operand_held(d.rs1, d.a, m, w, below.write.value);
-    let held = operand_held(d.rs2, d.b, m, w, below.write.value);
-    let b = with_counter(&d.instruction(), 0, issued, held);
-    let action = decoded_action(d, a, b, arch.image());
     Aftermath {
         first,
-        below,
-        above: change_of(arch, &below.store, &action),
-        pc: decoded_next(d, a, b, arch.image()),
-        end: end_of(&action),
+        below: *below,
+        above: NO_CHANGE,
+        pc: npc,
+        end: below.end,
     }
 }

@@ -1,6 +1,8 @@
+use Rattle.std.proofs.Common.{ℕ, ◌+◌, arith}
 use Rattle.eval_mask.specs.LatchMasks.{IsExecutedMasked, Latches}
-use Rattle.eval_mask.proofs.Masked.{no_both}
+use Rattle.eval_mask.proofs.Masked.{no_both, executed_after}
 use Rattle.eval_mask.proofs.MaskLoops.{mask_kept, mask_set}
+use Rattle.eval_mask.proofs.Rows.{row_done}
 use Rattle.eval_mask.proofs.latches.executed_bits.Goals as goal
 use Rattle.eval_mask.proofs.latches.executed_bits.Goals.{then-executed_bit, else-executed_bit}
 
@@ -12,7 +14,11 @@ loop-k-preserved c =
     elim c.if-executed_bit.branch [
       | then-executed_bit w ↦
           rw w.mask-is
-          (mask_set 128 c.loop-k.k c.loop-k.mask P c.loop-k-test.true c.loop-k.invariant (c.executed_bit.ensures.0 w.if-executed_bit.true))
+          (mask_set 128 c.loop-k.k c.loop-k.mask P (omega (arith, c.loop-k-test.true)) c.loop-k.invariant (c.executed_bit.ensures.0 w.if-executed_bit.true))
       | else-executed_bit w ↦
           rw w.mask-is (mask_kept c.loop-k.k c.loop-k.mask P c.loop-k.invariant (λ p. no_both _ (c.executed_bit.ensures.1 p) w.if-executed_bit.false))
     ]
+
+pub returns : goal.returns
+returns c =
+    row_done 128 c.loop-k.k c.loop-k.mask _ (λ k h. executed_after _ _ _ _ _ _ k (omega (arith, h, c.loop-k-test.false))) c.loop-k.invariant

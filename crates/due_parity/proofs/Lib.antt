@@ -1,0 +1,13 @@
+mod BytesRead
+mod DataCycles
+mod DataMoves
+mod Decided
+mod Grown
+mod Lists
+mod Moves
+mod OtherBytes
+mod OtherCache
+mod RegisterCycles
+mod Runs
+mod Said
+mod Watching

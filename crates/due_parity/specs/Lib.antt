@@ -1,0 +1,5 @@
+pub mod Fates
+pub mod Notes
+pub mod Rows
+pub mod StruckCycles
+pub mod Touches
