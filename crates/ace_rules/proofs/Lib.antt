@@ -4,7 +4,7 @@ mod OnPath
 mod Judged
 mod Noted
 mod Walked
-mod Told
+pub mod Told
 mod AccessedAgain
 mod HeldLines
 mod LineClass

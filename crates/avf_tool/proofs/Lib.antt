@@ -1,11 +1,14 @@
 mod ByStatus
 mod Chains
 mod Deadness
+mod Flips
+mod HarmlessBits
 mod Numerals
 mod Programs
 mod Rams
 mod Retold
 mod Runs
+mod SomeNeeds
 mod Sources
 mod Traces
 mod Serving

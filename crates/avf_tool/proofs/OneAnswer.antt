@@ -3,7 +3,6 @@ use Rattle.std.proofs.Common.{◌≡◌, ℕ, List, Option, None, Some, refl, sy
 use Rattle.std.specs.Prelude.{◌==◌, if◌then◌else◌}
 use Rattle.std.proofs.lemmas.Bool.{cases_order}
 use Rattle.bit_field.specs.declared.places.Place.{Place}
-use Rattle.bit_field.specs.declared.places.Structure.{Structure}
 use Rattle.elf_load.specs.Meaning.{image_of}
 use Rattle.run_record.specs.Run.{RecordedRun}
 use Rattle.run_record.specs.Within.{record_within}
@@ -15,13 +14,15 @@ use Rattle.ace_class.specs.declared.class.Rule.TheVariants.{Timing, EmptyPlace, 
 use Rattle.ace_class.specs.declared.class.Rule.TheVariants.{StoreRedirection, CleanData, CleanLine, UnaccessedLine, CleanTag, NoTrapCause}
 use Rattle.ace_law.specs.Classes.{IsClass}
 use Rattle.ace_law.specs.Moments.{Moment}
-use Rattle.avf_tool.specs.Answers.{Answer, Text, answer, class_due, in_run, on_run, only, query_due, ram_size, reason_in, task_answer}
-use Rattle.avf_tool.specs.Answers.{unless_endless, unless_nowhere, unless_refused}
-use Rattle.avf_tool.specs.Texts.{class_text}
+use Rattle.avf_tool.specs.Answers.{answer, on_run, ram_size, reason_in, task_answer}
+use Rattle.avf_tool.specs.BitAnswers.{class_due, place_in, unless_nowhere, verdict_due}
+use Rattle.avf_tool.specs.Due.{Answer, Text, only}
+use Rattle.avf_tool.specs.Answers.{unless_endless, unless_refused}
+use Rattle.avf_tool.specs.Texts.{class_text, verdict_text}
+use Rattle.avf_tool.proofs.Flips.{same_verdict}
 use Rattle.avf_tool.specs.Words.{Job, OnImage, Assemble}
-use Rattle.avf_tool.specs.declared.command.BitInCycle.{BitInCycle}
 use Rattle.avf_tool.specs.declared.command.Task.{Task}
-use Rattle.avf_tool.specs.declared.command.Task.TheVariants.{Run, Dead, Query}
+use Rattle.avf_tool.specs.declared.command.Task.TheVariants.{Run, Dead, Query, Flip}
 
 -- ---- a rule is known by its number
 
@@ -73,23 +74,25 @@ one_only : (due : Answer) → HasOne (only due)
 unfolding HasOne
 one_only due a b h k = sym h ∙ k
 
-one_class_due : (run : RecordedRun) (place : Place) (cycle : ℕ) → HasOne (class_due run place cycle)
+one_class_due : (run : RecordedRun) (cycle : ℕ) (place : Place) → HasOne (class_due run cycle place)
 unfolding HasOne
-one_class_due run place cycle a b h k =
+one_class_due run cycle place a b h k =
     sym h.2 ∙ ap (λ c. Text (class_text c)) (one_class _ place h.0 k.0 h.1.is k.1.is) ∙ k.2
 
-one_place : (run : RecordedRun) (cycle : ℕ) (place : Option Place) → HasOne (unless_nowhere place (λ p. class_due run p cycle))
-one_place run cycle (Some place) = one_class_due run place cycle
-one_place run cycle None = one_only _
+one_verdict_due : (run : RecordedRun) (cycle : ℕ) (place : Place) → HasOne (verdict_due run cycle place)
+unfolding HasOne
+one_verdict_due run cycle place a b h k =
+    sym h.2 ∙ ap (λ v. Text (verdict_text v)) (same_verdict run cycle _ h.0 k.0 h.1.is k.1.is) ∙ k.2
 
-one_query : (run : RecordedRun) (asked : BitInCycle) (s : Option Structure) → HasOne (query_due run asked s)
-one_query run asked (Some s) = one_place run asked.cycle (in_run run asked.cycle (record { structure = s; bit = asked.bit }))
-one_query run asked None = one_only _
+one_place : (place : Option Place) (next : Place → Answer → Type 0) → ((p : Place) → HasOne (next p)) → HasOne (unless_nowhere place next)
+one_place (Some place) next one = one place
+one_place None next one = one_only _
 
 one_task : (task : Task) (run : RecordedRun) → HasOne (task_answer task run)
 one_task Run run = one_only _
 one_task Dead run = one_only _
-one_task (Query asked) run = one_query run asked asked.structure
+one_task (Query asked) run = one_place (place_in run asked) (class_due run asked.cycle) (one_class_due run asked.cycle)
+one_task (Flip asked) run = one_place (place_in run asked) (verdict_due run asked.cycle) (one_verdict_due run asked.cycle)
 
 one_run : (task : Task) (run : Option RecordedRun) → HasOne (unless_endless run (task_answer task))
 one_run task (Some run) = one_task task run

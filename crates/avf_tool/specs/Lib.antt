@@ -1,4 +1,6 @@
 pub mod Answers
+pub mod BitAnswers
+pub mod Due
 pub mod Ends
 pub mod Jobs
 pub mod Law

@@ -12,7 +12,8 @@ use Rattle.elf_load.specs.Refusal.{first_refusal}
 use Rattle.rv_isa.specs.Runs.{ProgramTrace, IsTrace}
 use Rattle.run_record.specs.Run.{RecordedRun}
 use Rattle.run_record.specs.Within.{record_within}
-use Rattle.avf_tool.specs.Answers.{Answer, Text, Refused, answer, ram_size}
+use Rattle.avf_tool.specs.Answers.{answer, ram_size}
+use Rattle.avf_tool.specs.Due.{Answer, Text, Refused}
 use Rattle.run_log.specs.Answers.{IsProgram}
 use Rattle.avf_tool.specs.Texts.{deadness_text}
 use Rattle.avf_tool.specs.Words.{Job}

@@ -13,7 +13,7 @@ use Rattle.run_record.specs.declared.recorded.TheConstants.{LONGEST_RUN}
 use Rattle.avf_tool.specs.Numbers.{number}
 use Rattle.avf_tool.specs.declared.command.BitInCycle.{BitInCycle}
 use Rattle.avf_tool.specs.declared.command.Task.{Task}
-use Rattle.avf_tool.specs.declared.command.Task.TheVariants.{Run, Dead, Query}
+use Rattle.avf_tool.specs.declared.command.Task.TheVariants.{Run, Dead, Query, Flip}
 
 -- what is told of the run of an image: its file's name, the machine, and how many cycles the run may take
 pub record ImageJob : Type 0 where
@@ -60,6 +60,7 @@ tasks =
     record { name = codes "run"; reads = alone Run }
     ∷ record { name = codes "dead"; reads = alone Dead }
     ∷ record { name = codes "query"; reads = λ words. option_map Query (bit_words words) }
+    ∷ record { name = codes "flip"; reads = λ words. option_map Flip (bit_words words) }
     ∷ []
 
 -- what the first of these tasks with a name makes of the words

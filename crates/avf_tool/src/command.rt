@@ -28,6 +28,8 @@ pub enum Task {
     Dead,
     /// The class of a bit in a cycle.
     Query(BitInCycle),
+    /// What becomes of the run with a bit flipped before a cycle.
+    Flip(BitInCycle),
 }
 
 /// What is told of the run of an image: the machine's shape, the name of the file that has the image, how many cycles the run
@@ -103,6 +105,13 @@ fn query_words(words: &[String]) -> Option<Task>
     Some(Task::Query(bit_words(words)?))
 }
 
+// `flip` with the words behind IMAGE and BUDGET.
+fn flip_words(words: &[String]) -> Option<Task>
+    ensures { result ≡ option_map Task.Flip (bit_words (texts words.now)) }
+{
+    Some(Task::Flip(bit_words(words)?))
+}
+
 // The task of this name, with the words behind IMAGE and BUDGET. One line each.
 fn task_named(name: &str, words: &[String]) -> Option<Task>
     ensures { result ≡ task_in tasks name.now (texts words.now) }
@@ -111,6 +120,7 @@ fn task_named(name: &str, words: &[String]) -> Option<Task>
         "run" => alone(words, Task::Run),
         "dead" => alone(words, Task::Dead),
         "query" => query_words(words),
+        "flip" => flip_words(words),
         _ => None,
     }
 }

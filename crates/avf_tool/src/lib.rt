@@ -7,6 +7,7 @@ mod numbers;
 mod shape;
 
 // What a command answers.
+mod bits;
 mod perform;
 mod stages;
 mod texts;

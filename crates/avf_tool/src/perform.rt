@@ -1,23 +1,18 @@
 // What each command answers.
-ghost use Rattle.std.specs.Prelude.{◌≡◌, ◌≤◌, ◌<◌, List, ℕ, length};
-ghost use Rattle.bit_field.specs.Shapes.{IsPlaceIn};
-ghost use Rattle.rv_isa.specs.Runs.{IsTrace};
-ghost use Rattle.avf_tool.specs.Answers.{Text, answer, class_due, only, place_due, query_due, task_answer};
-ghost use Rattle.avf_tool.specs.Texts as texts;
+ghost use Rattle.std.specs.Prelude.{◌≡◌, ◌≤◌, List, ℕ, length};
+ghost use Rattle.avf_tool.specs.Answers.{answer, task_answer};
 ghost use Rattle.avf_tool.specs.Jobs.{image_job_of, job_of};
 ghost use Rattle.run_log.specs.Answers.{IsProgram};
 ghost use Rattle.avf_tool.specs.Stages.{Answers, IsDeadText, IsText};
 ghost use Rattle.avf_tool.specs.Words.{Assemble, IsDoable, IsRunnable, OnImage, told_to};
 
-use crate::command::{BitInCycle, Command, ImageCommand, Task};
+use crate::bits::{flip_answer, query_answer};
+use crate::command::{Command, ImageCommand, Task};
 use crate::stages::{
     IMAGE_LIMIT, assemble_source, load_image, read_image, read_source, run_image, trace_run,
 };
-use crate::texts::{class_text, dead_counts, dead_text, run_text};
-use ace_class::Class;
-use ace_rules::Analysis;
+use crate::texts::{dead_counts, dead_text, run_text};
 use avf_base::{Refusal, Shelf, Steps};
-use bit_field::Place;
 use dead_class::classify;
 use need_pass::needs;
 use run_log::Recorded;
@@ -56,89 +51,6 @@ fn dead_answer<M: Ledger>(
     dead_of(alloc, &trace)
 }
 
-// The text of a class.
-fn class_bytes(alloc: Global, class: Class) -> Result<Vec<u8>, Refusal>
-    ensures { IsText (only (Text (texts.class_text class))) result }
-{
-    let text = class_text(alloc, class)?;
-    Ok(text.into_bytes())
-}
-
-// The class of the bit at a place in a cycle.
-fn class_answer(
-    alloc: Global,
-    analysis: &Analysis<'_>,
-    place: &Place,
-    cycle: u32,
-) -> Result<Vec<u8>, Refusal>
-    requires program { IsProgram analysis.now.r }
-    requires place { IsPlaceIn analysis.now.r.shape place.now }
-    requires cycle { cycle < analysis.now.r.cycles }
-    requires traced { IsTrace analysis.now.r.image analysis.now.r.clocks analysis.now.run }
-    ensures { IsText (class_due analysis.now.r place.now cycle) result }
-{
-    let class = analysis.class_of(place, cycle);
-    class_bytes(alloc, class)
-}
-
-// The same, where there are such a bit and such a cycle.
-#[tactic(auto, using(crate::proofs::Queries::inside, crate::proofs::Queries::outside))]
-fn place_answer(
-    alloc: Global,
-    analysis: &Analysis<'_>,
-    place: &Place,
-    cycle: u32,
-) -> Result<Vec<u8>, Refusal>
-    requires program { IsProgram analysis.now.r }
-    requires traced { IsTrace analysis.now.r.image analysis.now.r.clocks analysis.now.run }
-    ensures { IsText (place_due analysis.now.r cycle place.now) result }
-{
-    if analysis.in_range(place, cycle) {
-        class_answer(alloc, analysis, place, cycle)
-    } else {
-        Err(Refusal::NoSuchBit)
-    }
-}
-
-// The same of a recorded run.
-fn run_place_answer<L: Ledger, M: Ledger>(
-    alloc: Global,
-    place: &Place,
-    cycle: u32,
-    run: Recorded<'_>,
-    steps: &mut Steps<L>,
-    applies: &mut Steps<M>,
-) -> Result<Vec<u8>, Refusal>
-    requires { IsProgram run }
-    ensures { IsText (place_due run.entry cycle place.now) result }
-{
-    let analysis = Analysis::new(alloc, run, steps, applies)?;
-    place_answer(alloc, &analysis, place, cycle)
-}
-
-// The class of a bit in a cycle, where there are such ones.
-fn query_answer<L: Ledger, M: Ledger>(
-    alloc: Global,
-    asked: BitInCycle,
-    run: Recorded<'_>,
-    steps: &mut Steps<L>,
-    applies: &mut Steps<M>,
-) -> Result<Vec<u8>, Refusal>
-    requires { IsProgram run }
-    ensures { IsText (query_due run.entry asked asked.structure) result }
-{
-    match asked.structure {
-        Some(structure) => {
-            let place = Place {
-                structure,
-                bit: asked.bit,
-            };
-            run_place_answer(alloc, &place, asked.cycle, run, steps, applies)
-        }
-        None => Err(Refusal::NoSuchBit),
-    }
-}
-
 // What is told of a run, one line a task.
 fn task_answer<L: Ledger, M: Ledger>(
     alloc: Global,
@@ -153,7 +65,8 @@ fn task_answer<L: Ledger, M: Ledger>(
     match task {
         Task::Run => run_answer(alloc, &run),
         Task::Dead => dead_answer(alloc, &run, applies),
-        Task::Query(asked) => query_answer(alloc, asked, run, steps, applies),
+        Task::Query(asked) => query_answer(alloc, &asked, run, steps, applies),
+        Task::Flip(asked) => flip_answer(alloc, &asked, &run, steps),
     }
 }
 

@@ -3,7 +3,8 @@ ghost use Rattle.std.specs.Prelude.{◌≡◌, ◌≤◌, List, ℕ, length, IfO
 ghost use Rattle.avf_base.specs.Refusals.{ByContents, cause_of};
 ghost use Rattle.avf_base.specs.declared.refusal.Refusal.TheVariants.{BadImage, BadSource};
 ghost use Rattle.bit_field.specs.Shapes.{IsShape};
-ghost use Rattle.avf_tool.specs.Answers.{only, ram_size, source_answer};
+ghost use Rattle.avf_tool.specs.Answers.{ram_size, source_answer};
+ghost use Rattle.avf_tool.specs.Due.{only};
 ghost use Rattle.run_log.specs.Answers.{IsProgram};
 ghost use Rattle.avf_tool.specs.Stages.{IsLoaded, IsRead, IsText, Ran, Traced};
 
