@@ -2,10 +2,12 @@ mod ByStatus
 mod Chains
 mod Deadness
 mod Flips
+mod Generated
 mod HarmlessBits
 mod Numerals
 mod Programs
 mod Rams
+mod Reports
 mod Retold
 mod Runs
 mod SomeNeeds
@@ -16,3 +18,4 @@ mod StructureNames
 mod OneAnswer
 mod Queries
 mod ShortWords
+mod Work

@@ -12,17 +12,23 @@ use Rattle.ace_class.specs.declared.class.Class.TheVariants.{Ace, UnAce}
 use Rattle.ace_class.specs.declared.class.Rule.{Rule}
 use Rattle.ace_class.specs.declared.class.Rule.TheVariants.{Timing, EmptyPlace, WrongPath, OnPath, Masked, DeadRegister, DeadData}
 use Rattle.ace_class.specs.declared.class.Rule.TheVariants.{StoreRedirection, CleanData, CleanLine, UnaccessedLine, CleanTag, NoTrapCause}
+use Rattle.ace_class.specs.Counts.{Counted}
+use Rattle.ace_count.specs.RunCounts.{AreCounts}
+use Rattle.ace_rules.specs.Notes.{Story}
 use Rattle.ace_law.specs.Classes.{IsClass}
+use Rattle.avf_report.specs.Tables.{report_csv_of}
+use Rattle.avf_report.specs.Texts.{report_text_of}
 use Rattle.ace_law.specs.Moments.{Moment}
-use Rattle.avf_tool.specs.Answers.{answer, on_run, ram_size, reason_in, task_answer}
+use Rattle.avf_tool.specs.Answers.{answer, image_answer, on_run, ram_size, reason_in, task_answer}
 use Rattle.avf_tool.specs.BitAnswers.{class_due, place_in, unless_nowhere, verdict_due}
 use Rattle.avf_tool.specs.Due.{Answer, Text, only}
 use Rattle.avf_tool.specs.Answers.{unless_endless, unless_refused}
+use Rattle.avf_tool.specs.ReportAnswers.{counts_due, story_of}
 use Rattle.avf_tool.specs.Texts.{class_text, verdict_text}
 use Rattle.avf_tool.proofs.Flips.{same_verdict}
-use Rattle.avf_tool.specs.Words.{Job, OnImage, Assemble}
+use Rattle.avf_tool.specs.Words.{ImageJob, Job, OnImage, Bench, Assemble, bench_run}
 use Rattle.avf_tool.specs.declared.command.Task.{Task}
-use Rattle.avf_tool.specs.declared.command.Task.TheVariants.{Run, Dead, Query, Flip}
+use Rattle.avf_tool.specs.declared.command.Task.TheVariants.{Run, Dead, Report, Csv, Query, Flip}
 
 -- ---- a rule is known by its number
 
@@ -64,6 +70,9 @@ one_class a p (UnAce rule) (UnAce other) h k =
       | inr (inr behind) ↦ absurd (h.1 other behind k.0)
     ]
 
+same_counts : (story : Story) (c d : Counted) → AreCounts story c → AreCounts story d → c ≡ d
+same_counts story c d a b = ?
+
 -- ---- one answer
 
 -- at most one answer is due
@@ -88,9 +97,15 @@ one_place : (place : Option Place) (next : Place → Answer → Type 0) → ((p 
 one_place (Some place) next one = one place
 one_place None next one = one_only _
 
+one_counts : (run : RecordedRun) (text : Counted → List ℕ) → HasOne (counts_due run text)
+unfolding HasOne
+one_counts run text a b h k = sym h.2 ∙ ap (λ c. Text (text c)) (same_counts (story_of run) h.0 k.0 h.1.are k.1.are) ∙ k.2
+
 one_task : (task : Task) (run : RecordedRun) → HasOne (task_answer task run)
 one_task Run run = one_only _
 one_task Dead run = one_only _
+one_task Report run = one_counts run (report_text_of run)
+one_task Csv run = one_counts run report_csv_of
 one_task (Query asked) run = one_place (place_in run asked) (class_due run asked.cycle) (one_class_due run asked.cycle)
 one_task (Flip asked) run = one_place (place_in run asked) (verdict_due run asked.cycle) (one_verdict_due run asked.cycle)
 
@@ -102,10 +117,14 @@ one_refusal : (bad : Option ℕ) (next : Answer → Type 0) → HasOne next → 
 one_refusal (Some k) next h = one_only _
 one_refusal None next h = h
 
-one_due : (job : Job) (contents : List ℕ) → HasOne (answer job contents)
-one_due (OnImage job) contents =
+one_image : (job : ImageJob) (contents : List ℕ) → HasOne (image_answer job contents)
+one_image job contents =
     one_refusal (reason_in job.shape contents) (on_run job.shape job.budget (task_answer job.task) (image_of contents (ram_size job.shape)))
     (one_run job.task (record_within (image_of contents (ram_size job.shape)) job.shape job.budget))
+
+one_due : (job : Job) (contents : List ℕ) → HasOne (answer job contents)
+one_due (OnImage job) contents = one_image job contents
+one_due (Bench job) contents = one_image (bench_run job) contents
 one_due (Assemble name) contents = one_only _
 
 pub one_answer : (job : Job) (contents : List ℕ) (a b : Answer) → answer job contents a → answer job contents b → a ≡ b

@@ -12,10 +12,11 @@ use Rattle.rv_asm.specs.declared.fault.Fault.{Fault}
 use Rattle.avf_tool.specs.BitAnswers.{flip_due, query_due}
 use Rattle.avf_tool.specs.Due.{Answer, Text, Refused, only}
 use Rattle.avf_tool.specs.Programs.{instructions_of}
+use Rattle.avf_tool.specs.ReportAnswers.{csv_due, report_due}
 use Rattle.avf_tool.specs.Texts.{deadness_text, run_text}
-use Rattle.avf_tool.specs.Words.{Job, OnImage, Assemble}
+use Rattle.avf_tool.specs.Words.{ImageJob, Job, OnImage, Bench, Assemble, bench_run}
 use Rattle.avf_tool.specs.declared.command.Task.{Task}
-use Rattle.avf_tool.specs.declared.command.Task.TheVariants.{Run, Dead, Query, Flip}
+use Rattle.avf_tool.specs.declared.command.Task.TheVariants.{Run, Dead, Report, Csv, Query, Flip}
 use Rattle.avf_tool.specs.declared.stages.TheConstants.{IMAGE_LIMIT, TOO_LONG}
 
 -- the size of a machine's RAM, in bytes
@@ -46,6 +47,8 @@ on_run shape budget next image = unless_endless (record_within image shape budge
 abbrev pub task_answer : Task → RecordedRun → Answer → Type 0
 task_answer Run run = only (Text (run_text run.output run.end run.instructions))
 task_answer Dead run = only (Text (deadness_text (instructions_of run)))
+task_answer Report run = report_due run
+task_answer Csv run = csv_due run
 task_answer (Query asked) run = query_due run asked
 task_answer (Flip asked) run = flip_due run asked
 
@@ -57,7 +60,12 @@ unless_faulty None next = next
 abbrev pub source_answer : List ℕ → Answer
 source_answer source = unless_faulty (fault_in source) (Text (assembled source))
 
--- which answers are due to a command where its file holds these contents: there is one
+-- what is told of the run of the image that these contents mean
+abbrev pub image_answer : ImageJob → List ℕ → Answer → Type 0
+image_answer job contents = on_image job.shape contents (on_run job.shape job.budget (task_answer job.task))
+
+-- which answers are due to a command that works on these contents: there is one
 abbrev pub answer : Job → List ℕ → Answer → Type 0
-answer (OnImage job) contents = on_image job.shape contents (on_run job.shape job.budget (task_answer job.task))
+answer (OnImage job) contents = image_answer job contents
+answer (Bench job) contents = image_answer (bench_run job) contents
 answer (Assemble name) contents = only (source_answer contents)

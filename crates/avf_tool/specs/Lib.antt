@@ -6,6 +6,8 @@ pub mod Jobs
 pub mod Law
 pub mod Numbers
 pub mod Programs
+pub mod ReportAnswers
 pub mod Stages
 pub mod Texts
 pub mod Words
+pub mod Work

@@ -31,6 +31,12 @@ abbrev pub IsRead : Refusal → ℕ → Option (List ℕ) → ℕ → ℕ → Re
 IsRead long limit known before now (Ok v) = (length v.items ≤ limit) × IfSome known (λ contents. v.items ≡ contents)
 IsRead long limit known before now (Err refusal) = WasRead (cause_of refusal) long limit known before now refusal
 
+-- these bytes, or want of memory
+abbrev pub IsMade : List ℕ → Result (Vec ℕ Global) Refusal → Type 0
+IsMade bytes (Ok made) = made.items ≡ bytes
+IsMade bytes (Err OutOfMemory) = ⊤
+IsMade bytes (Err refusal) = ⊥
+
 -- the image that these contents mean, or the first reason to refuse them
 abbrev pub IsLoaded : Shape → List ℕ → Result LoadedImage Refusal → Type 0
 IsLoaded shape contents (Ok image) = (first_refusal contents (ram_size shape) ≡ None) × (image ≡ image_of contents (ram_size shape))

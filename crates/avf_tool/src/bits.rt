@@ -1,5 +1,5 @@
 // What is told of a bit in a cycle: its class, and what becomes of the run with it flipped.
-ghost use Rattle.std.specs.Prelude.{◌≡◌, ◌<◌, IfSome};
+ghost use Rattle.std.specs.Prelude.{◌≡◌, ◌≤◌, ◌<◌, ◌+◌, ◌*◌, IfSome};
 ghost use Rattle.bit_field.specs.Shapes.{IsPlaceIn};
 ghost use Rattle.rv_isa.specs.Runs.{IsTrace};
 ghost use Rattle.run_log.specs.Answers.{IsProgram};
@@ -71,7 +71,9 @@ pub fn query_answer<L: Ledger, M: Ledger>(
     applies: &mut Steps<M>,
 ) -> Result<Vec<u8>, Refusal>
     requires { IsProgram run }
-    ensures { IsText (query_due run.entry asked.now) result }
+    ensures text { IsText (query_due run.entry asked.now) result }
+    ensures steps { steps.new ≤ steps.old + run.entry.cycles }
+    ensures applies { applies.new ≤ applies.old + 34 * run.entry.instructions }
 {
     match place_in(&run, asked) {
         Some(place) => {

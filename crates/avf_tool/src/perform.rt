@@ -1,21 +1,24 @@
 // What each command answers.
-ghost use Rattle.std.specs.Prelude.{◌≡◌, ◌≤◌, List, ℕ, length};
-ghost use Rattle.avf_tool.specs.Answers.{answer, task_answer};
-ghost use Rattle.avf_tool.specs.Jobs.{image_job_of, job_of};
+ghost use Rattle.std.specs.Prelude.{◌≡◌, ◌≤◌, ◌+◌, ◌-◌, ◌*◌, List, ℕ, Some, true, length};
+ghost use Rattle.avf_tool.specs.Answers.{answer, image_answer, task_answer};
+ghost use Rattle.avf_tool.specs.Jobs.{bench_job_of, image_job_of, job_of};
+ghost use Rattle.img_gen.specs.Program.{generated};
 ghost use Rattle.run_log.specs.Answers.{IsProgram};
 ghost use Rattle.avf_tool.specs.Stages.{Answers, IsDeadText, IsText};
-ghost use Rattle.avf_tool.specs.Words.{Assemble, IsDoable, IsRunnable, OnImage, told_to};
+ghost use Rattle.avf_tool.specs.Work.{IsFew, WorkOf, tells_of_one_run};
+ghost use Rattle.avf_tool.specs.Words.{Assemble, Bench, IsDoable, IsMakeable, IsRunnable, OnImage, bench_run, told_to};
 
 use crate::bits::{flip_answer, query_answer};
-use crate::command::{Command, ImageCommand, Task};
+use crate::command::{BenchCommand, Command, ImageCommand, Task};
+use crate::reports::{csv_answer, report_answer};
 use crate::stages::{
-    IMAGE_LIMIT, assemble_source, load_image, read_image, read_source, run_image, trace_run,
+    IMAGE_LIMIT, assemble_source, generate_image, load_image, read_image, read_source, run_image, trace_run,
 };
 use crate::texts::{dead_counts, dead_text, run_text};
 use avf_base::{Refusal, Shelf, Steps};
 use dead_class::classify;
 use need_pass::needs;
-use run_log::Recorded;
+use run_log::{LONGEST_RUN, Recorded};
 use rv_isa::Trace;
 use std::alloc::Global;
 use std::sync::ledger::Ledger;
@@ -45,7 +48,8 @@ fn dead_answer<M: Ledger>(
     applies: &mut Steps<M>,
 ) -> Result<Vec<u8>, Refusal>
     requires { IsProgram run.now }
-    ensures { IsText (task_answer Task.Dead run.now) result }
+    ensures text { IsText (task_answer Task.Dead run.now) result }
+    ensures applies { applies.new ≤ applies.old + run.now.instructions }
 {
     let trace = trace_run(alloc, run, applies)?;
     dead_of(alloc, &trace)
@@ -60,11 +64,15 @@ fn task_answer<L: Ledger, M: Ledger>(
     applies: &mut Steps<M>,
 ) -> Result<Vec<u8>, Refusal>
     requires { IsProgram run }
-    ensures { IsText (task_answer task run.entry) result }
+    ensures text { IsText (task_answer task run.entry) result }
+    ensures steps { tells_of_one_run task ≡ true → steps.new ≤ steps.old + run.entry.cycles }
+    ensures applies { applies.new ≤ applies.old + 34 * run.entry.instructions }
 {
     match task {
         Task::Run => run_answer(alloc, &run),
         Task::Dead => dead_answer(alloc, &run, applies),
+        Task::Report => report_answer(alloc, run, steps, applies),
+        Task::Csv => csv_answer(alloc, run, steps, applies),
         Task::Query(asked) => query_answer(alloc, &asked, run, steps, applies),
         Task::Flip(asked) => flip_answer(alloc, &asked, &run, steps),
     }
@@ -80,7 +88,8 @@ fn answer<L: Ledger, M: Ledger>(
 ) -> Result<Vec<u8>, Refusal>
     requires size { length contents.now ≤ IMAGE_LIMIT }
     requires does { IsRunnable (image_job_of command.now) }
-    ensures { IsText (answer (OnImage (image_job_of command.now)) contents.now) result }
+    ensures text { IsText (image_answer (image_job_of command.now) contents.now) result }
+    ensures work { IsFew (image_job_of command.now) contents.now (steps.new - steps.old) (applies.new - applies.old) }
 {
     let image = load_image(alloc, contents, &command.shape)?;
     let recorded = run_image(alloc, &image, &command.shape, command.budget, steps)?;
@@ -99,9 +108,39 @@ fn tell_image<H: Shelf, L: Ledger, M: Ledger>(
     ensures answer { Answers (OnImage (image_job_of command.now)) (H.holds shelf.old command.now.image.now) (H.faults shelf.old) (H.faults shelf.new) result }
     ensures keeps { (n : List ℕ) → H.holds shelf.new n ≡ H.holds shelf.old n }
     ensures later { H.faults shelf.old ≤ H.faults shelf.new }
+    ensures work { WorkOf (OnImage (image_job_of command.now)) (H.holds shelf.old command.now.image.now) (steps.new - steps.old) (applies.new - applies.old) }
 {
     let contents = read_image(alloc, shelf, command.image)?;
     answer(alloc, command, &contents, steps, applies)
+}
+
+// The report of a generated program, which may run as long as any.
+fn report_command(bench: &BenchCommand) -> ImageCommand<'static>
+    requires { IsMakeable (bench_job_of bench.now) }
+    ensures is { image_job_of result ≡ bench_run (bench_job_of bench.now) }
+    ensures does { IsRunnable (image_job_of result) }
+{
+    ImageCommand {
+        shape: bench.shape,
+        image: "",
+        budget: LONGEST_RUN,
+        task: Task::Report,
+    }
+}
+
+// Generates a program, and tells of its run.
+fn tell_generated<L: Ledger, M: Ledger>(
+    alloc: Global,
+    bench: &BenchCommand,
+    steps: &mut Steps<L>,
+    applies: &mut Steps<M>,
+) -> Result<Vec<u8>, Refusal>
+    requires { IsMakeable (bench_job_of bench.now) }
+    ensures text { IsText (answer (Bench (bench_job_of bench.now)) (generated bench.now.number bench.now.size)) result }
+    ensures work { WorkOf (Bench (bench_job_of bench.now)) (Some (generated bench.now.number bench.now.size)) (steps.new - steps.old) (applies.new - applies.old) }
+{
+    let contents = generate_image(alloc, bench.number, bench.size)?;
+    answer(alloc, &report_command(bench), &contents, steps, applies)
 }
 
 // Reads a source, and assembles it.
@@ -127,9 +166,11 @@ pub fn perform<H: Shelf, L: Ledger, M: Ledger>(
     ensures answer { Answers (job_of command.now) (told_to (job_of command.now) (H.holds shelf.old)) (H.faults shelf.old) (H.faults shelf.new) result }
     ensures keeps { (n : List ℕ) → H.holds shelf.new n ≡ H.holds shelf.old n }
     ensures later { H.faults shelf.old ≤ H.faults shelf.new }
+    ensures work { WorkOf (job_of command.now) (told_to (job_of command.now) (H.holds shelf.old)) (steps.new - steps.old) (applies.new - applies.old) }
 {
     match command {
         Command::Image(command) => tell_image(alloc, command, shelf, steps, applies),
+        Command::Generated(command) => tell_generated(alloc, command, steps, applies),
         Command::Assembly(source) => assemble_file(alloc, source, shelf),
     }
 }
