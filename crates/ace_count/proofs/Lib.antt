@@ -1,2 +1,5 @@
 mod Sums
 mod Tallies
+mod BitClasses
+mod Rows
+pub mod OneCount

@@ -1,11 +1,12 @@
 -- Rows of counts, made bit by bit, cycle by cycle, or stretch by stretch.
-use Rattle.std.proofs.Common.{◌≡◌, ◌≢◌, ℕ, ◌+◌, ◌-◌, ◌*◌, ◌<◌, ◌≤◌, ◌==◌, cond, Bool, true, false, nat_lt, List, [], ◌∷◌, length, get_or, set, refl, sym, ap, ◌∙◌, subst, inl, inr, arith, sum_by, Option, Some, None}
+use Rattle.std.proofs.Common.{◌≡◌, ◌≢◌, ℕ, zero, suc, ◌^◌, ◌+◌, ◌-◌, ◌*◌, ◌<◌, ◌≤◌, ◌==◌, cond, Bool, true, false, nat_lt, List, length, set, refl, sym, ap, ◌∙◌, inl, inr, arith, sum_by}
 use Rattle.std.specs.Prelude.{slice_index, replicate}
-use Rattle.std.proofs.lemmas.Bool.{cases_lt, cases_eq, cases_Bool}
+use Rattle.std.proofs.lemmas.Bool.{cases_lt, cases_eq}
 use Rattle.std.proofs.lemmas.Bool.Decides.{nat_tests}
 use Rattle.std.proofs.lemmas.List.{get_or-set_same, get_or-set_other}
 use Rattle.std.proofs.Math.ListN.{length-set}
 use Rattle.std.proofs.Math.Path.{fun_ext}
+use Rattle.std.proofs.lemmas.Nat.{mul-le}
 use Rattle.bit_field.specs.Layouts.{number_of}
 use Rattle.ace_class.specs.Classes.{class_number, classes}
 use Rattle.ace_class.specs.declared.class.Class.{Class}
@@ -15,7 +16,7 @@ use Rattle.ace_class.specs.declared.class.Rule.TheVariants.{Timing, EmptyPlace, 
 use Rattle.ace_class.specs.declared.class.Rule.TheVariants.{StoreRedirection, CleanData, CleanLine, UnaccessedLine, CleanTag, NoTrapCause}
 use Rattle.ace_count.specs.Sums.{count_below, count_pairs, sum_below}
 use Rattle.ace_count.specs.Tallies.{IsAdded, IsTally}
-use Rattle.ace_count.proofs.Sums.{sum_below-suc, sum_below-same, sum_below-const, sum_below-le, sum_below-on, sum_below-swap, sum_by-sum_below, sum_below-add}
+use Rattle.ace_count.proofs.Sums.{sum_below-suc, sum_below-same, sum_below-const, sum_below-le, sum_below-on, sum_by-sum_below, sum_below-add}
 
 -- each number has one class at most
 abbrev pub HasOne : (ℕ → Class → Type 0) → Type 0
@@ -30,6 +31,22 @@ count-le n test = let h = sum_below-le n 1 (λ k. number_of (test k)) (λ k. num
 
 pub pairs-le : (m n : ℕ) (test : ℕ → ℕ → Bool) → count_pairs m n test ≤ m * n
 pairs-le m n test = sum_below-le m n (λ k. count_below n (test k)) (λ k. count-le n (test k))
+
+pub number-most : (c : Class) → class_number c < CLASSES
+number-most Ace = omega arith
+number-most (UnAce Timing) = omega arith
+number-most (UnAce EmptyPlace) = omega arith
+number-most (UnAce WrongPath) = omega arith
+number-most (UnAce OnPath) = omega arith
+number-most (UnAce Masked) = omega arith
+number-most (UnAce DeadRegister) = omega arith
+number-most (UnAce DeadData) = omega arith
+number-most (UnAce StoreRedirection) = omega arith
+number-most (UnAce CleanData) = omega arith
+number-most (UnAce CleanLine) = omega arith
+number-most (UnAce UnaccessedLine) = omega arith
+number-most (UnAce CleanTag) = omega arith
+number-most (UnAce NoTrapCause) = omega arith
 
 -- ---- a stretch of numbers that have one class
 
@@ -66,33 +83,33 @@ module _ (Has : ℕ → Class → Type 0) (one : HasOne Has) (from until : ℕ) 
       ∙ ap (λ (s : ℕ). s + (until - from) * number_of (class_number class == n))
       (sum_below-same from _ _ (λ k l. ap (λ c. number_of (class_number c == n)) (before so_far.classes from class k l)))
 
-  at_class : (n : ℕ) (value : ℕ) → class_number class < length row → value ≡ slice_index row (class_number class)
-      → slice_index (set row (class_number class) (value + (until - from))) n ≡ slice_index row n + (until - from) * number_of (class_number class == n)
-  at_class n value within is =
-      elim (cases_eq n (class_number class)) [
+  at_class : (n i : ℕ) → i ≡ class_number class → i < length row → slice_index (set row i (slice_index row i + (until - from))) n
+      ≡ slice_index row n + (until - from) * number_of (class_number class == n)
+  at_class n i is within =
+      elim (cases_eq n i) [
         | inl e ↦
-            let same : slice_index (set row (class_number class) (value + (until - from))) (class_number class) ≡ value + (until - from) =
-            get_or-set_same row (class_number class) (value + (until - from)) 0 within in
-            rw e (rw same (grind (arith, nat_tests)))
+            let same : slice_index (set row i (slice_index row i + (until - from))) i ≡ slice_index row i + (until - from) =
+            get_or-set_same row i (slice_index row i + (until - from)) 0 within in
+            rw (e, same) (grind (arith, nat_tests))
         | inr d ↦
-            let other : slice_index (set row (class_number class) (value + (until - from))) n ≡ slice_index row n =
-            get_or-set_other row (class_number class) n (value + (until - from)) 0 d in
+            let other : slice_index (set row i (slice_index row i + (until - from))) n ≡ slice_index row n =
+            get_or-set_other row i n (slice_index row i + (until - from)) 0 d in
             rw other (grind (arith, nat_tests))
       ]
 
   -- the next numbers have a class, up to before `until`
-  pub added-on : (class' : Class) → ((k : ℕ) → from ≤ k → k < until → Has k class') → (value : ℕ) → class_number class < length row
-      → value ≡ slice_index row (class_number class) → IsAdded Has until old (set row (class_number class) (value + (until - from)))
-  added-on class' same value within is =
-      let e : class ≡ class' = one from class class' here (same from (omega arith) further) in
-      record {
+  pub added-on : (other : Class) → ((k : ℕ) → from ≤ k → k < until → Has k other) → (i by : ℕ) → i ≡ class_number class → i < length row
+      → by ≡ until - from → IsAdded Has until old (set row i (slice_index row i + by))
+  added-on other same i by is within length =
+      let e : class ≡ other = one from class other here (same from (omega arith) further) in
+      rw length record {
         classes = and_on so_far.classes from class;
         are = λ k l. elim (cases_lt k from) [
           | inl b ↦ rw (before so_far.classes from class k b) (so_far.are k b)
           | inr b ↦ rw (after so_far.classes from class k b, e) (same k b l)
         ];
         full = length-set row _ _ ∙ so_far.full;
-        counts = λ n. let h = so_far.counts n in at_class n value within is ∙ omega (arith, h, stretch n);
+        counts = λ n. let h = so_far.counts n in at_class n i is within ∙ omega (arith, h, stretch n);
       }
 
 -- the row has room for what is added
@@ -100,6 +117,11 @@ pub added-most : (Has : ℕ → Class → Type 0) (end : ℕ) (old row : List �
 added-most Has end old row h n = let e = h.counts n in let l = count-le end (λ k. class_number (h.classes k) == n) in omega arith
 
 -- ---- bits or cycles one by one
+
+zeros : (m n : ℕ) → slice_index (replicate m 0) n ≡ 0
+zeros zero n = refl
+zeros (suc m) zero = refl
+zeros (suc m) (suc n) = zeros m n
 
 pub tally-no_bits : (Has : ℕ → ℕ → Class → Type 0) (cycles : ℕ) (row : List ℕ) → length row ≡ CLASSES → ((n : ℕ) → slice_index row n ≡ 0) → IsTally Has 0 cycles row
 unfolding sum_below
@@ -174,8 +196,20 @@ tally-next_cycle Has bits cycle old row so_far more = record {
       omega (arith, h, e, g, a);
 }
 
+-- no bits yet
+pub tally-none : (Has : ℕ → ℕ → Class → Type 0) (cycles : ℕ) → IsTally Has 0 cycles (replicate CLASSES 0)
+tally-none Has cycles = tally-no_bits Has cycles (replicate CLASSES 0) refl (zeros CLASSES)
+
 pub tally-most : (Has : ℕ → ℕ → Class → Type 0) (bits cycles : ℕ) (row : List ℕ) → IsTally Has bits cycles row → (n : ℕ) → slice_index row n ≤ bits * cycles
 tally-most Has bits cycles row h n = rw (h.counts n) (pairs-le bits cycles (λ k t. class_number (h.classes k t) == n))
+
+-- with room for one bit more
+pub tally-room : (Has : ℕ → ℕ → Class → Type 0) (bit cycles : ℕ) (row : List ℕ) → IsTally Has bit cycles row → bit < 2 ^ 32 → cycles ≤ 1000000
+    → (n : ℕ) → slice_index row n + cycles < 2 ^ 64
+tally-room Has bit cycles row h few short n =
+    let m = tally-most Has bit cycles row h n in
+    let p = mul-le bit cycles (2 ^ 32) 1000000 (omega arith) short in
+    omega (arith, m, p)
 
 -- ---- all classes together
 

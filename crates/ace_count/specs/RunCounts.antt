@@ -1,7 +1,6 @@
 -- The counts of a recorded run: of each structure how many pairs of a bit and a cycle have each class.
 use Rattle.std.specs.Prelude.{◌≡◌, ℕ, List, length}
 use Rattle.bit_field.specs.Shapes.{bits_in}
-use Rattle.bit_field.specs.declared.places.Place.{Place}
 use Rattle.bit_field.specs.declared.places.Structure.{Structure}
 use Rattle.ace_class.specs.Counts.{Counted, row_of, structures}
 use Rattle.ace_class.specs.declared.class.Class.{Class}

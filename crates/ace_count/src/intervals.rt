@@ -28,8 +28,10 @@ fn add_bit(a: &Analysis<'_>, place: &Place, row: &mut [u64; CLASSES])
 pub(crate) fn tally_by_intervals(a: &Analysis<'_>, structure: Structure) -> [u64; CLASSES]
     ensures { IsRowOf a.now structure result }
 {
+    a.recorded().is_record();
+    let shape = a.recorded().shape();
     let mut row = [0; CLASSES];
-    for bit in 0..bits_in(structure, &a.recorded().shape()) {
+    for bit in 0..bits_in(structure, &shape) {
         add_bit(a, &Place { structure, bit }, &mut row);
     }
     row

@@ -29,3 +29,4 @@ mod FetchedMasks
 mod FetchedClasses
 mod KnownMoments
 mod ClassNumbers
+pub mod OneClass
