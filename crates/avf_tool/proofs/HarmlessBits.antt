@@ -1,7 +1,5 @@
 -- The bits that a rule calls un-ACE are harmless, in every run that is recorded. No table of needs has to be made for it.
-use Rattle.std.proofs.Common.{◌≡◌, ℕ, ◌≤◌, ◌^◌, length, Some, refl, ◌∙◌, ap, subst, sym, arith}
-use Rattle.std.specs.Prelude.{map, slice_get}
-use Rattle.std.specs.List.{range_with_len}
+use Rattle.std.proofs.Common.{◌≡◌, ℕ, ◌≤◌, ◌^◌, length, Some, ◌∙◌, ap, subst, sym, arith}
 use Rattle.std.proofs.lemmas.List.FromFn.{get_or-map-range_with_len, length-map-range_with_len}
 use Rattle.std.proofs.lemmas.Option.{slice_get-get_or}
 use Rattle.elf_load.specs.Image.{IsImage}
@@ -53,7 +51,7 @@ pub harmless : UnAceIsHarmless → (run : RecordedRun) → IsImage run.image →
 harmless law run image is short program place cycle rule inside below class =
     must_be_same run cycle _
     (λ none. some_needs (instructions_of run) (λ table needs. none
-      (law (moment_of run cycle) table place rule
-        (told_of run (program_of run) table image is (record_timed run is) short (traced run program)
-          (λ i clocks at fit trace. need_law i clocks (program_of run) at fit trace) needs)
-        below inside class.0)))
+    (law (moment_of run cycle) table place rule
+    (told_of run (program_of run) table image is (record_timed run is) short (traced run program)
+    (λ i clocks at fit trace. need_law i clocks (program_of run) at fit trace) needs)
+    below inside class.0)))

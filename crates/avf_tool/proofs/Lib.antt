@@ -7,7 +7,7 @@ mod HarmlessBits
 mod Numerals
 mod Programs
 mod Rams
-mod Reports
+mod CountsTold
 mod Retold
 mod Runs
 mod SomeNeeds

@@ -1,24 +1,14 @@
 -- One answer is due to a command.
-use Rattle.std.proofs.Common.{◌≡◌, ℕ, List, Option, None, Some, refl, sym, ap, ◌∙◌, inl, inr}
-use Rattle.std.specs.Prelude.{◌==◌, if◌then◌else◌}
-use Rattle.std.proofs.lemmas.Bool.{cases_order}
+use Rattle.std.proofs.Common.{◌≡◌, ℕ, List, Option, None, Some, sym, ap, ◌∙◌}
 use Rattle.bit_field.specs.declared.places.Place.{Place}
 use Rattle.elf_load.specs.Meaning.{image_of}
 use Rattle.run_record.specs.Run.{RecordedRun}
 use Rattle.run_record.specs.Within.{record_within}
-use Rattle.ace_class.specs.Classes.{number_of}
-use Rattle.ace_class.specs.declared.class.Class.{Class}
-use Rattle.ace_class.specs.declared.class.Class.TheVariants.{Ace, UnAce}
-use Rattle.ace_class.specs.declared.class.Rule.{Rule}
-use Rattle.ace_class.specs.declared.class.Rule.TheVariants.{Timing, EmptyPlace, WrongPath, OnPath, Masked, DeadRegister, DeadData}
-use Rattle.ace_class.specs.declared.class.Rule.TheVariants.{StoreRedirection, CleanData, CleanLine, UnaccessedLine, CleanTag, NoTrapCause}
 use Rattle.ace_class.specs.Counts.{Counted}
-use Rattle.ace_count.specs.RunCounts.{AreCounts}
-use Rattle.ace_rules.specs.Notes.{Story}
-use Rattle.ace_law.specs.Classes.{IsClass}
+use Rattle.ace_count.proofs.OneCount.{counts_unique}
+use Rattle.ace_rules.proofs.OneClass.{one_class}
 use Rattle.avf_report.specs.Tables.{report_csv_of}
 use Rattle.avf_report.specs.Texts.{report_text_of}
-use Rattle.ace_law.specs.Moments.{Moment}
 use Rattle.avf_tool.specs.Answers.{answer, image_answer, on_run, ram_size, reason_in, task_answer}
 use Rattle.avf_tool.specs.BitAnswers.{class_due, place_in, unless_nowhere, verdict_due}
 use Rattle.avf_tool.specs.Due.{Answer, Text, only}
@@ -29,51 +19,6 @@ use Rattle.avf_tool.proofs.Flips.{same_verdict}
 use Rattle.avf_tool.specs.Words.{ImageJob, Job, OnImage, Bench, Assemble, bench_run}
 use Rattle.avf_tool.specs.declared.command.Task.{Task}
 use Rattle.avf_tool.specs.declared.command.Task.TheVariants.{Run, Dead, Report, Csv, Query, Flip}
-
--- ---- a rule is known by its number
-
-rule_of : ℕ → Rule
-rule_of n =
-    if n == 1 then Timing else if n == 2 then EmptyPlace else if n == 3 then WrongPath else if n == 4 then OnPath else if n == 5 then Masked
-    else if n == 6 then DeadRegister else if n == 7 then DeadData else if n == 8 then StoreRedirection else if n == 9 then CleanData
-    else if n == 10 then CleanLine else if n == 11 then UnaccessedLine else if n == 12 then CleanTag else NoTrapCause
-
-numbered : (rule : Rule) → rule_of (number_of rule) ≡ rule
-unfolding rule_of
-numbered Timing = refl
-numbered EmptyPlace = refl
-numbered WrongPath = refl
-numbered OnPath = refl
-numbered Masked = refl
-numbered DeadRegister = refl
-numbered DeadData = refl
-numbered StoreRedirection = refl
-numbered CleanData = refl
-numbered CleanLine = refl
-numbered UnaccessedLine = refl
-numbered CleanTag = refl
-numbered NoTrapCause = refl
-
-same_rule : (a b : Rule) → number_of a ≡ number_of b → a ≡ b
-same_rule a b e = sym (numbered a) ∙ ap rule_of e ∙ numbered b
-
--- ---- a bit has one class in a cycle
-
-one_class : (a : Moment) (p : Place) (c d : Class) → IsClass c a p → IsClass d a p → c ≡ d
-one_class a p Ace Ace h k = refl
-one_class a p Ace (UnAce rule) h k = absurd (h rule k.0)
-one_class a p (UnAce rule) Ace h k = absurd (k rule h.0)
-one_class a p (UnAce rule) (UnAce other) h k =
-    elim (cases_order (number_of rule) (number_of other)) [
-      | inl same ↦ ap UnAce (same_rule rule other same)
-      | inr (inl before) ↦ absurd (k.1 rule before h.0)
-      | inr (inr behind) ↦ absurd (h.1 other behind k.0)
-    ]
-
-same_counts : (story : Story) (c d : Counted) → AreCounts story c → AreCounts story d → c ≡ d
-same_counts story c d a b = ?
-
--- ---- one answer
 
 -- at most one answer is due
 HasOne : (Answer → Type 0) → Type 0
@@ -99,7 +44,7 @@ one_place None next one = one_only _
 
 one_counts : (run : RecordedRun) (text : Counted → List ℕ) → HasOne (counts_due run text)
 unfolding HasOne
-one_counts run text a b h k = sym h.2 ∙ ap (λ c. Text (text c)) (same_counts (story_of run) h.0 k.0 h.1.are k.1.are) ∙ k.2
+one_counts run text a b h k = sym h.2 ∙ ap (λ c. Text (text c)) (counts_unique (story_of run) h.0 k.0 h.1.are k.1.are) ∙ k.2
 
 one_task : (task : Task) (run : RecordedRun) → HasOne (task_answer task run)
 one_task Run run = one_only _

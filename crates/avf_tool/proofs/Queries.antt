@@ -5,7 +5,6 @@ use Rattle.std.specs.declared.alloc.Global.{Global}
 use Rattle.avf_base.specs.declared.refusal.Refusal.{Refusal}
 use Rattle.bit_field.specs.declared.places.Place.{Place}
 use Rattle.rv_isa.specs.Runs.{IsTrace}
-use Rattle.run_record.specs.Run.{RecordedRun}
 use Rattle.run_record.specs.Verdict.{HasSame, flipped}
 use Rattle.run_log.specs.Answers.{IsProgram}
 use Rattle.ace_class.specs.declared.class.Class.{Class}

@@ -1,12 +1,11 @@
 -- The needs of a run have a table: that there is none is absurd. So what is proved of a run with the table of its needs, and is decidable,
 -- holds of every run, whether or not there is memory to make the table.
 use Rattle.std.proofs.Common.{◌≡◌, ◌⊎◌, ℕ, zero, suc, ◌+◌, ◌-◌, ◌^◌, ◌<◌, ◌≤◌, Bool, true, false, List, [], ◌∷◌, length, refl, sym, ◌∙◌, subst, ap, arith, inl, inr}
-use Rattle.std.specs.Prelude.{◌↔◌, ◌==◌, ◌%◌, if◌then◌else◌, drop, nat_le, slice_index_or, Some, Option, None}
+use Rattle.std.specs.Prelude.{◌↔◌, ◌==◌, if◌then◌else◌, drop, nat_le, slice_index_or, Some, bit_xor}
 use Rattle.std.specs.BTreeMap.{is_at}
 use Rattle.std.specs.Int.{bit_at}
 use Rattle.std.specs.Map.{lookup}
 use Rattle.std.specs.Ordering.{nat_cmp}
-use Rattle.std.specs.Prelude.{bit_xor}
 use Rattle.std.proofs.lemmas.Bool.{cases_lt}
 use Rattle.std.proofs.lemmas.Bool.Decides.{nat_tests}
 use Rattle.std.proofs.lemmas.List.{drop_all}
@@ -14,7 +13,7 @@ use Rattle.std.proofs.lemmas.Nat.Bits.{bit_at-lt, bit_at-zero}
 use Rattle.bit_field.proofs.Bits.{bit_at-flip_other, bit_at-flip_same}
 use Rattle.bit_field.proofs.Low.{bit_at-mod}
 use Rattle.rv_isa.specs.declared.effect.Retired.{Retired}
-use Rattle.need_pass.specs.Histories.{changes_of, mask_after, mask_at}
+use Rattle.need_pass.specs.Histories.{mask_after, mask_at}
 use Rattle.need_pass.specs.Needed.{Needed}
 use Rattle.need_pass.specs.ProgramBits.{Byte, ProgramBit, Register}
 use Rattle.need_pass.specs.Tables.{IsNeedOf, Needs, byte_need, reg_need}
@@ -74,7 +73,7 @@ with_bit P w m is (inr none) (inl one) =
     (n, one_more P w m n is (flipped_same w m) (λ e. absurd (omega (arith, e, nil)), λ p. absurd (none p)))
 
 one_or_nil : (m w : ℕ) → (bit_at m w ≡ 1) ⊎ (bit_at m w ≡ 0)
-one_or_nil m w = elim (cases_lt (bit_at m w) 1) [ | inl l ↦ inr (omega (arith, l)) | inr g ↦ inl (omega (arith, g, bit_at-lt m w)) ]
+one_or_nil m w = elim (cases_lt (bit_at m w) 1) [ inl l ↦ inr (omega (arith, l)) | inr g ↦ inl (omega (arith, g, bit_at-lt m w)) ]
 
 masked : (P : ℕ → Type 0) (w : ℕ) → NotAbsent ((m : ℕ) × HasBits w P m)
 masked P zero h = h (0, λ k l. absurd (omega (arith, l)))
@@ -109,12 +108,15 @@ IsRow w P changes = (i k : ℕ) → k < w → (bit_at (mask_at changes i) k ≡ 
 row : (w : ℕ) (P : ℕ → ℕ → Type 0) (n : ℕ) → ((i k : ℕ) → n ≤ i → P i k → ⊥) → NotAbsent ((changes : List Change) × IsRow w P changes)
 row w P n none h =
     chosen (λ i m. HasBits w (P i) m) 0 n (λ i l. masked (P i) w)
-    (λ (f, is). h (history f n, λ i k l. elim (cases_lt i n) [
-      | inl below ↦ let e : mask_at (history f n) i ≡ f i = within f n i 0 below in
-          subst (λ m. (bit_at m k ≡ 1) ↔ P i k) (sym e) (is i below k l)
-      | inr above ↦ let e : mask_at (history f n) i ≡ 0 = past f n i 0 above in
-          (λ one. absurd (omega (arith, one, ap (λ m. bit_at m k) e, bit_at-zero k)), λ p. absurd (none i k above p))
-    ]))
+    (λ (f, is). h (
+      history f n,
+      λ i k l. elim (cases_lt i n) [
+        | inl below ↦ let e : mask_at (history f n) i ≡ f i = within f n i 0 below in
+            subst (λ m. (bit_at m k ≡ 1) ↔ P i k) (sym e) (is i below k l)
+        | inr above ↦ let e : mask_at (history f n) i ≡ 0 = past f n i 0 above in
+            (λ one. absurd (omega (arith, one, ap (λ m. bit_at m k) e, bit_at-zero k)), λ p. absurd (none i k above p))
+      ],
+    ))
 
 -- ---- rows by number
 
@@ -170,8 +172,8 @@ some_by entries n all none =
     chosen (λ r changes. IsRow 32 (λ i k. Needed (drop i entries) (Register (r + 1) k)) changes) [] 31
     (λ r l. row 32 (λ i k. Needed (drop i entries) (Register (r + 1) k)) (length entries) (λ i k. none_past entries (Register (r + 1) k) i))
     (λ (f, registers). chosen (λ p changes. IsRow 8 (λ i k. Needed (drop i entries) (Byte p k)) changes) [] n
-      (λ p l. row 8 (λ i k. Needed (drop i entries) (Byte p k)) (length entries) (λ i k. none_past entries (Byte p k) i))
-      (λ (g, bytes). none (record { count = length entries; registers = rows f 0 31; bytes = keyed g n }, table_of entries n f g all registers bytes)))
+    (λ p l. row 8 (λ i k. Needed (drop i entries) (Byte p k)) (length entries) (λ i k. none_past entries (Byte p k) i))
+    (λ (g, bytes). none (record { count = length entries; registers = rows f 0 31; bytes = keyed g n }, table_of entries n f g all registers bytes)))
 
 pub some_needs : (entries : List Retired) → ((table : Needs) → IsNeedOf entries table → ⊥) → ⊥
 some_needs entries none = some_by entries (2 ^ 32) refl (λ (table, is). none table is)

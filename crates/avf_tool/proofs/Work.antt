@@ -1,11 +1,11 @@
 -- How much work the stages of a command make.
-use Rattle.std.proofs.Common.{◌≡◌, ℕ, ◌+◌, ◌-◌, ◌*◌, ◌≤◌, true, List, Some, Option, sym, ◌∙◌, subst, arith}
+use Rattle.std.proofs.Common.{◌≡◌, ℕ, ◌+◌, ◌-◌, ◌*◌, ◌≤◌, true, List, Some, Option, IfSome, sym, subst, arith}
 use Rattle.elf_load.specs.Image.{LoadedImage}
 use Rattle.elf_load.specs.Meaning.{image_of}
 use Rattle.run_record.specs.Run.{RecordedRun}
 use Rattle.run_record.specs.Within.{record_within}
 use Rattle.avf_tool.specs.Answers.{ram_size}
-use Rattle.avf_tool.specs.Words.{ImageJob, Job}
+use Rattle.avf_tool.specs.Words.{ImageJob, Job, told_to}
 use Rattle.avf_tool.specs.Work.{IsFew, IsFewFor, WorkOf, Works, run_of, tells_of_one_run}
 
 some_is : {A : Type 0} (o : Option A) (x y : A) → o ≡ Some x → o ≡ Some y → x ≡ y
@@ -37,7 +37,23 @@ module _ (job : ImageJob) (contents : List ℕ) (image : LoadedImage) (loaded : 
       subst (λ (r : RecordedRun). IsFewFor r (after - steps) (applied - applies)) same
       (record { cycles = omega (arith, most, first); instructions = omega (arith, few) })
 
--- the contents that are told are those that were read
-pub read : (job : ImageJob) (known : Option (List ℕ)) (contents told : List ℕ) (steps applies : ℕ) → known ≡ Some told → contents ≡ told
-    → IsFew job contents steps applies → IsFew job told steps applies
-read job known contents told steps applies is same h = subst (λ c. IsFew job c steps applies) same h
+-- a job that tells of a run, on the contents that are told
+pub does : (job : Job) (image : ImageJob) (known : Option (List ℕ)) (contents : List ℕ) (steps applies : ℕ) → run_of job ≡ Some image
+    → IfSome known (λ c. contents ≡ c) → IsFew image contents steps applies → WorkOf job known steps applies
+does job image known contents steps applies is read few other told e known_is =
+    let same : image ≡ other = some_is (run_of job) image other is e in
+    let contents_are : contents ≡ told = subst (λ o. IfSome o (λ c. contents ≡ c)) known_is read in
+    subst (λ j. IsFew j told steps applies) same (subst (λ c. IsFew image c steps applies) contents_are few)
+
+-- a call that did nothing
+pub idle : (job : Job) (known : Option (List ℕ)) (steps applies : ℕ) → WorkOf job known (steps - steps) (applies - applies)
+idle job known steps applies image contents e is = none image contents steps applies
+
+pub no_work : (asked : Option Job) (holds : List ℕ → Option (List ℕ)) (steps applies : ℕ) → Works asked holds (steps - steps) (applies - applies)
+no_work asked holds steps applies job e = idle job (told_to job holds) steps applies
+
+-- a call that did a job
+pub worked : (asked : Option Job) (job : Job) (holds : List ℕ → Option (List ℕ)) (steps applies : ℕ) → asked ≡ Some job
+    → WorkOf job (told_to job holds) steps applies → Works asked holds steps applies
+worked asked job holds steps applies is work other e =
+    let same : job ≡ other = some_is asked job other is e in subst (λ j. WorkOf j (told_to j holds) steps applies) same work

@@ -3,7 +3,7 @@ ghost use Rattle.std.specs.Prelude.{◌≡◌, ◌≤◌, ◌<◌, ◌+◌, ◌*
 ghost use Rattle.bit_field.specs.Shapes.{IsPlaceIn};
 ghost use Rattle.rv_isa.specs.Runs.{IsTrace};
 ghost use Rattle.run_log.specs.Answers.{IsProgram};
-ghost use Rattle.avf_tool.specs.BitAnswers.{class_due, flip_due, place_in, query_due, verdict_due};
+ghost use Rattle.avf_tool.specs.BitAnswers.{IsHarmless, class_due, flip_due, place_in, query_due, verdict_due};
 ghost use Rattle.avf_tool.specs.Due.{Text, only};
 ghost use Rattle.avf_tool.specs.Stages.{IsText};
 ghost use Rattle.avf_tool.specs.Texts as texts;
@@ -21,11 +21,22 @@ use run_log::Recorded;
 use std::alloc::Global;
 use std::sync::ledger::Ledger;
 
+/// Changes nothing; says that each bit that is un-ACE in a cycle of the run is harmless.
+pub fn is_harmless(run: &Recorded<'_>)
+    requires { IsProgram run.now }
+    ensures { IsHarmless run.now }
+{
+    run.is_record();
+    run.image().is_image();
+    un_ace_law();
+}
+
 // The place that is asked for, where there are such a bit and such a cycle.
 fn place_in(run: &Recorded<'_>, asked: &BitInCycle) -> Option<Place>
     ensures is { result ≡ place_in run.now asked.now }
     ensures inside { IfSome result (λ place. IsPlaceIn run.now.shape place × (asked.now.cycle < run.now.cycles)) }
 {
+    run.is_record();
     let structure = asked.structure?;
     if asked.bit < bits_in(structure, &run.shape()) && asked.cycle < run.cycles() {
         Some(Place {
@@ -106,8 +117,7 @@ fn verdict_answer<L: Ledger>(
     ensures { IsText (verdict_due run.now cycle place.now) result }
 {
     run.is_record();
-    run.image().is_image();
-    un_ace_law();
+    is_harmless(run);
     let machine = Machine::shaped(alloc, run.image(), &run.shape())?;
     let verdict = replay(machine, run, place, cycle, steps);
     verdict_bytes(alloc, verdict)

@@ -12,7 +12,8 @@ use crate::bits::{flip_answer, query_answer};
 use crate::command::{BenchCommand, Command, ImageCommand, Task};
 use crate::reports::{csv_answer, report_answer};
 use crate::stages::{
-    IMAGE_LIMIT, assemble_source, generate_image, load_image, read_image, read_source, run_image, trace_run,
+    IMAGE_LIMIT, assemble_source, generate_image, load_image, read_image, read_source, run_image,
+    trace_run,
 };
 use crate::texts::{dead_counts, dead_text, run_text};
 use avf_base::{Refusal, Shelf, Steps};

@@ -8,9 +8,9 @@ ghost use Rattle.avf_tool.specs.Due.{Text, only};
 ghost use Rattle.avf_tool.specs.ReportAnswers.{HasCounts, csv_due, report_due};
 ghost use Rattle.avf_tool.specs.Stages.{IsText};
 
+use crate::bits::is_harmless;
 use ace_class::Counts;
 use ace_count::count;
-use ace_law::un_ace_law;
 use ace_rules::Analysis;
 use avf_base::{Refusal, Steps};
 use avf_report::{report_csv, report_text};
@@ -24,10 +24,7 @@ fn counts_of(analysis: &Analysis<'_>) -> Counts
     requires traced { IsTrace analysis.now.r.image analysis.now.r.clocks analysis.now.run }
     ensures { HasCounts analysis.now.r result }
 {
-    let run = analysis.recorded();
-    run.is_record();
-    run.image().is_image();
-    un_ace_law();
+    is_harmless(analysis.recorded());
     count(analysis)
 }
 

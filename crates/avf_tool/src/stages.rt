@@ -92,7 +92,7 @@ pub fn assemble_source(alloc: Global, source: &[u8]) -> Result<Vec<u8>, Refusal>
 }
 
 /// The image of a number and a size.
-#[tactic(auto, using(crate::proofs::Generated::fits))]
+#[tactic(auto, using(crate::proofs::Generated::fits, crate::proofs::Generated::good_size))]
 pub fn generate_image(alloc: Global, number: u64, size: u32) -> Result<Vec<u8>, Refusal>
     requires least { 1 ≤ size }
     requires most { size ≤ MAX_SIZE }

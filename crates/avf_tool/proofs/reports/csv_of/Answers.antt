@@ -1,5 +1,5 @@
 use Rattle.avf_report.specs.Tables.{report_csv_of}
-use Rattle.avf_tool.proofs.Reports.{counts_told}
+use Rattle.avf_tool.proofs.CountsTold.{counts_told}
 use Rattle.avf_tool.proofs.reports.csv_of.Goals as goal
 
 pub returns : goal.returns
