@@ -133,7 +133,7 @@ fn run_line(alloc: Global, shape: &str, cycles: u32) -> Result<String, AllocErro
 }
 
 // Each word but the first two loads or stores, or is a NOP; a7 = 93 and ECALL end it.
-const CONFLICT: [u32; 7] = [
+pub const CONFLICT: [u32; 7] = [
     0x00080437, 0x00042283, 0x20042303, 0x40042383, 0x00042503, 0x05D00893, 0x00000073,
 ];
 

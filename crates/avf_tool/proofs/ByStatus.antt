@@ -4,7 +4,8 @@ use Rattle.avf_base.specs.Moves.{Grows}
 use Rattle.avf_base.specs.Refusals.{status_of}
 use Rattle.avf_base.specs.declared.refusal.Refusal.{Refusal}
 use Rattle.avf_base.specs.declared.refusal.Refusal.TheVariants.{Usage, ReadFault, BadImage, NoEnd, NoSuchBit, WriteFault, OutOfMemory, BadSource, BadMap}
-use Rattle.avf_tool.specs.Answers.{Answer, Text, Refused, answer}
+use Rattle.avf_tool.specs.Answers.{answer}
+use Rattle.avf_tool.specs.Due.{Answer, Text, Refused}
 use Rattle.avf_tool.specs.Ends.{Comes, Serves, Says, Ends, ByStatus, Due, Faults, Use, status_due}
 use Rattle.avf_tool.specs.Words.{Job, told_to}
 use Rattle.avf_tool.proofs.OneAnswer.{one_answer}

@@ -6,7 +6,7 @@ use Rattle.avf_base.specs.declared.refusal.Refusal.{Refusal}
 use Rattle.avf_base.specs.declared.refusal.Refusal.TheVariants.{Usage, ReadFault, BadImage, NoEnd, NoSuchBit, WriteFault, OutOfMemory, BadSource, BadMap}
 use Rattle.rv_isa.specs.Runs.{ProgramTrace}
 use Rattle.run_record.specs.Run.{RecordedRun}
-use Rattle.avf_tool.specs.Answers.{Text, only}
+use Rattle.avf_tool.specs.Due.{Text, only}
 use Rattle.avf_tool.specs.Programs.{instructions_of}
 use Rattle.avf_tool.specs.Stages.{IsDeadText, IsText}
 use Rattle.avf_tool.specs.Texts.{deadness_text}

@@ -5,7 +5,8 @@ use Rattle.avf_base.specs.Moves.{Grows, GrowsByFront}
 use Rattle.avf_base.specs.Refusals.{status_of, line_of, Cause, ByWords, ByShelf, ByContents, ByOut, Free, cause_of}
 use Rattle.avf_base.specs.declared.refusal.Refusal.{Refusal}
 use Rattle.avf_base.specs.declared.refusal.Refusal.TheVariants.{Usage, BadImage, BadSource, BadMap, OutOfMemory}
-use Rattle.avf_tool.specs.Answers.{Answer, Text, Refused, answer}
+use Rattle.avf_tool.specs.Answers.{answer}
+use Rattle.avf_tool.specs.Due.{Answer, Text, Refused}
 use Rattle.avf_tool.specs.Words.{Job, told_to}
 
 -- a count of faults, before a call and after it

@@ -31,4 +31,3 @@ pub past : (image : LoadedImage) (shape : Shape) (budget k : ℕ) (r : RecordedR
 past image shape budget k r fits running within =
     let of : IsRecordOf image shape budget r = within_is_record image shape budget r fits within in
     past_by image shape k r running of.image_is of.shape_is of.is_record.last (omega (arith, of.is_record.cycles)) of.is_record.ends
-

@@ -1,5 +1,5 @@
 use Rattle.avf_tool.proofs.Queries.{class_answered}
-use Rattle.avf_tool.proofs.perform.class_answer.Goals as goal
+use Rattle.avf_tool.proofs.bits.class_answer.Goals as goal
 
 pub returns : goal.returns
 returns c =
