@@ -54,7 +54,7 @@ own_left needs arch w m d case is on =
     let e = own_is needs arch w m d case is on in
     e ∙ sym (left_again arch.image _ _ case.doing case.doing (state_of arch).memory case.own e)
 
-completed_same : (m : ExecutedLatch) (d other : DecodedLatch) (npc : ℕ) → other.valid ≡ d.valid → other.pc ≡ d.pc → is_completed m other npc ≡ is_completed m d npc
+pub completed_same : (m : ExecutedLatch) (d other : DecodedLatch) (npc : ℕ) → other.valid ≡ d.valid → other.pc ≡ d.pc → is_completed m other npc ≡ is_completed m d npc
 completed_same m d other npc e f = rw (e, f) refl
 
 pub clock_is : (arch : ArchState) (w : ResultLatch) (m : ExecutedLatch) (d : DecodedLatch) (rd old npc x : ℕ) → is_completed m d npc ≡ true
@@ -87,7 +87,7 @@ doing_never needs arch w m d other case is on same reads =
 
 -- ---- doings that are the same, and writes of the same register
 
-agrees_itself : (needs : Needs) (arch : ArchState) (case : Case) (left : Aftermath) → left ≡ case.own → AgreesWithOwn needs arch case left
+pub agrees_itself : (needs : Needs) (arch : ArchState) (case : Case) (left : Aftermath) → left ≡ case.own → AgreesWithOwn needs arch case left
 agrees_itself needs arch case left e = rw e (record { output = refl; stop = refl; next = λ none. (refl, record { same = λ p is need. refl }) })
 
 abbrev doing : Action → ℕ → Doing

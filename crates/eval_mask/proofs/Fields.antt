@@ -1,8 +1,8 @@
 -- Which bits of a latch are in which of its fields.
-use Rattle.std.proofs.Common.{◌≡◌, ℕ, ◌+◌, ◌-◌, ◌<◌, ◌≤◌, List, [], ◌∷◌, Bool, true, false, refl, sym, ◌∙◌, ap, subst, arith, inl, inr}
+use Rattle.std.proofs.Common.{◌≡◌, ℕ, ◌+◌, ◌-◌, ◌<◌, ◌≤◌, List, [], ◌∷◌, ◌++◌, Bool, true, false, refl, sym, ◌∙◌, ap, subst, arith, inl, inr}
 use Rattle.std.specs.Prelude.{Option, Some, None}
 use Rattle.std.proofs.lemmas.Bool.{cases_lt}
-use Rattle.bit_field.specs.Layouts.{flip_by, located}
+use Rattle.bit_field.specs.Layouts.{bits_of, flip, flip_by, located}
 use Rattle.bit_field.proofs.Located.{located-here, located-none, located-on}
 use Rattle.pipe_latch.specs.DecodedBits as decoded
 use Rattle.pipe_latch.specs.ExecutedBits as executed
@@ -135,3 +135,25 @@ keeps_by d (Some (Count, i)) e = (refl, refl)
 pub flip_keeps : (d : DecodedLatch) (k : ℕ) → 31 ≤ k → k < 148
     → ((decoded.flipped d k).valid ≡ d.valid) × ((decoded.flipped d k).pc ≡ d.pc)
 flip_keeps d k h l = keeps_by d (decoded.field_of k) (decoded_inside k h l)
+
+-- ---- the fields of 32 bits
+
+skip : {F : Type 0} (width : F → ℕ) (before rest : List F) (i : ℕ) → located width (before ++ rest) (bits_of width before + i) ≡ located width rest i
+skip width [] rest i = ap (located width rest) (omega arith)
+skip width (f ∷ fs) rest i =
+    let back : width f + bits_of width fs + i - width f ≡ bits_of width fs + i = omega arith in
+    located-on width f (fs ++ rest) (width f + bits_of width fs + i) (omega arith) ∙ ap (located width (fs ++ rest)) back ∙ skip width fs rest i
+
+place_of : {F : Type 0} (width : F → ℕ) (before : List F) (f : F) (after : List F) (i : ℕ) → i < width f
+    → located width (before ++ (f ∷ after)) (bits_of width before + i) ≡ Some (f, i)
+place_of width before f after i l = skip width before (f ∷ after) i ∙ located-here width f after i l
+
+pub a_flipped : (d : DecodedLatch) (i : ℕ) → i < 32 → (record d { a = flip d.a i }) ≡ decoded.flipped d (52 + i)
+a_flipped d i l = sym (ap (flip_by (decoded.flip_in d) d) (place_of decoded.width (Valid ∷ Pc ∷ Op ∷ Rd ∷ Rs1 ∷ Rs2 ∷ []) A (B ∷ Imm ∷ Count ∷ []) i l))
+
+pub b_flipped : (d : DecodedLatch) (i : ℕ) → i < 32 → (record d { b = flip d.b i }) ≡ decoded.flipped d (84 + i)
+b_flipped d i l = sym (ap (flip_by (decoded.flip_in d) d) (place_of decoded.width (Valid ∷ Pc ∷ Op ∷ Rd ∷ Rs1 ∷ Rs2 ∷ A ∷ []) B (Imm ∷ Count ∷ []) i l))
+
+pub immediate_flipped : (d : DecodedLatch) (i : ℕ) → i < 32 → (record d { imm = flip d.imm i }) ≡ decoded.flipped d (116 + i)
+immediate_flipped d i l =
+    sym (ap (flip_by (decoded.flip_in d) d) (place_of decoded.width (Valid ∷ Pc ∷ Op ∷ Rd ∷ Rs1 ∷ Rs2 ∷ A ∷ B ∷ []) Imm (Count ∷ []) i l))

@@ -13,4 +13,6 @@ pub mod Rows
 pub mod Seeming
 pub mod UnderLog
 pub mod UnreadBits
+pub mod UnreadFields
+pub mod UnreadMasks
 pub mod WordBits

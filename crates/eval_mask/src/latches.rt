@@ -5,7 +5,7 @@ ghost use Rattle.eval_mask.specs.LatchMasks.{HasBits, IsExecutedMasked, IsLatchM
 
 use crate::cases::{Case, case_of, is_kept, is_masked, is_unmoved, same_action, same_left};
 use crate::completing::{Aftermath, executed_change, left_by, write_held};
-use crate::decoded::{decoded_high, decoded_low};
+use crate::decoded::decoded_bits;
 use bit_field::Struck;
 use need_pass::NeedTable;
 use pipe_latch::{ExMem, IdEx, MemWb};
@@ -152,9 +152,10 @@ pub fn latch_bits(
     ensures { IsLatchMask needs.now arch.now (record { w = w.now; m = m.now; d = d.now }) old npc x result }
 {
     let case = case_of(w, old, m, d, npc, arch, needs, x);
+    let (idex_low, idex_high) = decoded_bits(w, m, d, arch, needs, &case);
     LatchMask {
-        idex_low: decoded_low(w, m, d, arch, needs, &case),
-        idex_high: decoded_high(w, m, d, arch, needs, &case),
+        idex_low,
+        idex_high,
         exmem: executed_bits(w, m, d, arch, needs, &case),
         memwb: written_bits(w, m, d, arch, needs, &case),
     }

@@ -1,6 +1,6 @@
 use Rattle.eval_mask.specs.Cases.{IsMaskBelow}
 use Rattle.eval_mask.specs.LatchMasks.{IsDecodedMasked}
-use Rattle.eval_mask.proofs.decoded.decoded_low.Given as goal
+use Rattle.eval_mask.proofs.decoded.front_bits.Given as goal
 
 abbrev pub invariant-loop-k : goal.invariant-loop-k
 invariant-loop-k l = IsMaskBelow l.k (IsDecodedMasked l.needs l.arch

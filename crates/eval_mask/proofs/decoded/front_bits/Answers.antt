@@ -3,8 +3,8 @@ use Rattle.eval_mask.specs.LatchMasks.{IsDecodedMasked, Latches}
 use Rattle.eval_mask.proofs.Masked.{no_both, decoded_before}
 use Rattle.eval_mask.proofs.MaskLoops.{mask_kept, mask_set}
 use Rattle.eval_mask.proofs.Rows.{row_start}
-use Rattle.eval_mask.proofs.decoded.decoded_low.Goals as goal
-use Rattle.eval_mask.proofs.decoded.decoded_low.Goals.{then-decoded_bit, else-decoded_bit}
+use Rattle.eval_mask.proofs.decoded.front_bits.Goals as goal
+use Rattle.eval_mask.proofs.decoded.front_bits.Goals.{then-decoded_bit, else-decoded_bit}
 
 pub loop-k-init : goal.loop-k-init
 loop-k-init c = row_start 31 _ (λ k h. decoded_before _ _ _ _ _ _ k h)
