@@ -3,6 +3,8 @@ mod Clocks
 mod OnPath
 mod Judged
 mod Noted
+mod SameMasks
+mod KeptMasks
 mod Walked
 mod Told
 mod AccessedAgain
@@ -29,3 +31,7 @@ mod FetchedMasks
 mod FetchedClasses
 mod KnownMoments
 mod ClassNumbers
+pub mod OneClass
+mod NextStays
+mod Staying
+mod Intervals

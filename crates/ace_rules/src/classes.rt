@@ -76,13 +76,12 @@ fn class_in(
 }
 
 impl Analysis<'_> {
-    ghost use Rattle.std.specs.Prelude.{◌≡◌, ◌<◌, ◌≤◌};
+    ghost use Rattle.std.specs.Prelude.{◌≡◌, ◌<◌};
     ghost use Rattle.bit_field.specs.Shapes.{IsPlaceIn};
     ghost use Rattle.ace_class.specs.declared.class.Class.TheVariants.{UnAce};
     ghost use Rattle.ace_class.specs.declared.class.Rule.{Rule};
     ghost use Rattle.run_record.specs.Verdict.{HasSame, flipped};
     ghost use Rattle.ace_law.specs.Classes.{IsClass};
-    ghost use Rattle.ace_rules.specs.Analyses.{HasOneClass};
     ghost use Rattle.ace_rules.specs.Notes.{moment};
 
     /// The class of the bit at a place in a cycle of the run: the first of the rules that holds, or ACE. What it calls un-ACE is harmless:
@@ -106,24 +105,5 @@ impl Analysis<'_> {
             place,
             cycle,
         )
-    }
-
-    /// A cycle above `cycle`, at most the number of cycles of the run, up to before which the bit at the place has the class that it has in
-    /// `cycle`: the first in which it has another. It takes no memory.
-    pub fn same_until(&self, place: &Place, cycle: u32) -> u32
-        requires place { IsPlaceIn self.now.r.shape place.now }
-        requires cycle { cycle < self.now.r.cycles }
-        ensures after { cycle < result }
-        ensures within { result ≤ self.now.r.cycles }
-        ensures same { HasOneClass self.now place.now cycle result }
-    {
-        let class = self.class_of(place, cycle);
-        let cycles = self.recorded.cycles();
-        for later in cycle + 1..cycles {
-            if self.class_of(place, later).number() != class.number() {
-                return later;
-            }
-        }
-        cycles
     }
 }
