@@ -1,5 +1,5 @@
 -- The cycles in which a bit has one class, one interval after another.
-use Rattle.std.proofs.Common.{◌≡◌, ◌≤◌, ◌<◌, ℕ, arith, inl, inr}
+use Rattle.std.proofs.Common.{◌≤◌, ◌<◌, ℕ, arith, inl, inr}
 use Rattle.std.proofs.lemmas.Bool.{cases_order}
 use Rattle.bit_field.specs.declared.places.Place.{Place}
 use Rattle.ace_class.specs.declared.class.Class.{Class}

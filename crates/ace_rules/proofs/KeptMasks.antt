@@ -1,5 +1,5 @@
 -- The masks that are kept from cycle to cycle.
-use Rattle.std.proofs.Common.{◌≡◌, ℕ, Bool, true, false, refl}
+use Rattle.std.proofs.Common.{◌≡◌, Bool, true, false, refl}
 use Rattle.std.specs.Prelude.{None, Some, if◌then◌else◌}
 use Rattle.rv_isa.specs.Architecture.{ArchState}
 use Rattle.need_pass.specs.Tables.{Needs}

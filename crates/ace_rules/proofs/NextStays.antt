@@ -1,7 +1,6 @@
 -- What next concerns a byte is the same up to the cycle in which it does.
-use Rattle.std.proofs.Common.{◌≡◌, ◌+◌, ◌≤◌, ◌<◌, ◌&&◌, ℕ, Bool, true, false, List, [], ◌∷◌, Option, Some, None, find, nat_le, arith, refl, sym, ap}
+use Rattle.std.proofs.Common.{◌≡◌, ◌≤◌, ◌<◌, ◌&&◌, ℕ, Bool, true, false, List, [], ◌∷◌, Option, Some, None, find, nat_le, arith, refl, sym, ap}
 use Rattle.std.proofs.Common.{◌∙◌, if◌then◌else◌}
-use Rattle.std.specs.Prelude.{min}
 use Rattle.std.specs.Option.{option_map_or}
 use Rattle.std.proofs.lemmas.Bool.Decides.{nat_tests}
 use Rattle.bit_field.specs.declared.shapes.Shape.{Shape}

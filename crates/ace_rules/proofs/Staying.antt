@@ -1,5 +1,5 @@
 -- The class of a bit stays where what it goes by stays.
-use Rattle.std.proofs.Common.{◌≡◌, ◌+◌, ◌*◌, ◌/◌, ◌%◌, ◌≤◌, ◌<◌, ℕ, Bool, true, false, List, nat_le, arith, refl, sym, ap, subst, ◌∙◌}
+use Rattle.std.proofs.Common.{◌≡◌, ◌*◌, ◌/◌, ◌%◌, ◌≤◌, ◌<◌, ℕ, Bool, true, false, List, nat_le, arith, refl, sym, ap, subst, ◌∙◌}
 use Rattle.std.proofs.Common.{[], Some, if◌then◌else◌, slice_get}
 use Rattle.std.specs.Prelude.{min, slice_index_or}
 use Rattle.std.proofs.lemmas.Bool.Decides.{nat_tests}

@@ -1,5 +1,5 @@
 -- What the masks of the latches before a cycle depend on.
-use Rattle.std.specs.Prelude.{◌≡◌, ⊤, ℕ, Option, Some, None}
+use Rattle.std.specs.Prelude.{⊤, ℕ, Option, Some, None}
 use Rattle.rv_isa.specs.Architecture.{ArchState}
 use Rattle.pipe_latch.specs.Latches.{DecodedLatch}
 use Rattle.cyc_machine.specs.Pipeline.{register}

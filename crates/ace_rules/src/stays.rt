@@ -102,7 +102,11 @@ fn data_stays(life: &Life, slots: &SlotTable, shape: &Shape, bit: u32, cycle: u3
 {
     let slot = bit / 128;
     let next = next_at(life, shape, slot, bit % 128 / 8, cycle);
-    data_until(slots.held(slot, cycle), next, slots.next_change(slot, cycle))
+    data_until(
+        slots.held(slot, cycle),
+        next,
+        slots.next_change(slot, cycle),
+    )
 }
 
 /// Up to which cycle the class of a bit of the tags stays.
@@ -124,7 +128,11 @@ fn valid_stays(first_quiet: u32, slots: &SlotTable, slot: u32, cycle: u32) -> u3
     ensures { result ≡ stays.valid_until (held_in slots.now slot cycle) (stays.quiet_until first_quiet cycle) (next_change slots.now slot cycle) }
 {
     let quiet = quiet_until(first_quiet, cycle);
-    valid_until(slots.held(slot, cycle), quiet, slots.next_change(slot, cycle))
+    valid_until(
+        slots.held(slot, cycle),
+        quiet,
+        slots.next_change(slot, cycle),
+    )
 }
 
 /// Up to which cycle the class of a line slot's dirty bit stays.
@@ -134,7 +142,11 @@ fn dirty_stays(first_quiet: u32, slots: &SlotTable, slot: u32, cycle: u32) -> u3
     ensures { result ≡ stays.dirty_until (held_in slots.now slot cycle) (stays.quiet_until first_quiet cycle) (next_change slots.now slot cycle) }
 {
     let quiet = quiet_until(first_quiet, cycle);
-    dirty_until(slots.held(slot, cycle), quiet, slots.next_change(slot, cycle))
+    dirty_until(
+        slots.held(slot, cycle),
+        quiet,
+        slots.next_change(slot, cycle),
+    )
 }
 
 /// Up to which cycle the class of the bit at a place surely stays: in no later cycle, where nothing is known at once.

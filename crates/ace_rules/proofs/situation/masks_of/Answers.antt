@@ -1,4 +1,4 @@
-use Rattle.std.proofs.Common.{subst, sym}
+use Rattle.std.proofs.Common.{subst}
 use Rattle.ace_rules.specs.Situations.{AreKept}
 use Rattle.ace_rules.proofs.SameMasks.{same_masks}
 use Rattle.ace_rules.proofs.situation.masks_of.Goals as goal
