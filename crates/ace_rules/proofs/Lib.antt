@@ -6,7 +6,7 @@ mod Noted
 mod SameMasks
 mod KeptMasks
 mod Walked
-mod Told
+pub mod Told
 mod AccessedAgain
 mod HeldLines
 mod LineClass
@@ -30,7 +30,6 @@ mod FetchedPlaces
 mod FetchedMasks
 mod FetchedClasses
 mod KnownMoments
-mod ClassNumbers
 pub mod OneClass
 mod NextStays
 mod Staying

@@ -84,6 +84,15 @@ impl Analysis<'_> {
     ghost use Rattle.ace_law.specs.Classes.{IsClass};
     ghost use Rattle.ace_rules.specs.Notes.{moment};
 
+    /// Changes nothing; its contract says that un-ACE is harmless: the run with that bit flipped before that cycle has the recorded output
+    /// and end, within the bound.
+    pub fn is_harmless(&self)
+        ensures { (place : Place) (cycle : ℕ) (rule : Rule) → IsPlaceIn self.now.r.shape place → cycle < self.now.r.cycles → IsClass (UnAce rule) (moment self.now cycle) place → HasSame self.now.r cycle (flipped self.now.r cycle place) }
+    {
+        un_ace_law();
+        let _quiet = self.quiet;
+    }
+
     /// The class of the bit at a place in a cycle of the run: the first of the rules that holds, or ACE. What it calls un-ACE is harmless:
     /// the run with that bit flipped before that cycle has the recorded output and end, within the bound. It takes no memory.
     pub fn class_of(&self, place: &Place, cycle: u32) -> Class

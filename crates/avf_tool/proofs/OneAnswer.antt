@@ -1,6 +1,5 @@
 -- One answer is due to a command.
 use Rattle.std.proofs.Common.{◌≡◌, ℕ, List, Option, None, Some, refl, sym, ap, ◌∙◌, inl, inr}
-use Rattle.std.specs.Prelude.{◌==◌, if◌then◌else◌}
 use Rattle.std.proofs.lemmas.Bool.{cases_order}
 use Rattle.bit_field.specs.declared.places.Place.{Place}
 use Rattle.bit_field.specs.declared.places.Structure.{Structure}
@@ -10,9 +9,7 @@ use Rattle.run_record.specs.Within.{record_within}
 use Rattle.ace_class.specs.Classes.{number_of}
 use Rattle.ace_class.specs.declared.class.Class.{Class}
 use Rattle.ace_class.specs.declared.class.Class.TheVariants.{Ace, UnAce}
-use Rattle.ace_class.specs.declared.class.Rule.{Rule}
-use Rattle.ace_class.specs.declared.class.Rule.TheVariants.{Timing, EmptyPlace, WrongPath, OnPath, Masked, DeadRegister, DeadData}
-use Rattle.ace_class.specs.declared.class.Rule.TheVariants.{StoreRedirection, CleanData, CleanLine, UnaccessedLine, CleanTag, NoTrapCause}
+use Rattle.ace_class.proofs.Numbers.{same_rule}
 use Rattle.ace_law.specs.Classes.{IsClass}
 use Rattle.ace_law.specs.Moments.{Moment}
 use Rattle.avf_tool.specs.Answers.{Answer, Text, answer, class_due, in_run, on_run, only, query_due, ram_size, reason_in, task_answer}
@@ -22,33 +19,6 @@ use Rattle.avf_tool.specs.Words.{Job, OnImage, Assemble}
 use Rattle.avf_tool.specs.declared.command.BitInCycle.{BitInCycle}
 use Rattle.avf_tool.specs.declared.command.Task.{Task}
 use Rattle.avf_tool.specs.declared.command.Task.TheVariants.{Run, Dead, Query}
-
--- ---- a rule is known by its number
-
-rule_of : ℕ → Rule
-rule_of n =
-    if n == 1 then Timing else if n == 2 then EmptyPlace else if n == 3 then WrongPath else if n == 4 then OnPath else if n == 5 then Masked
-    else if n == 6 then DeadRegister else if n == 7 then DeadData else if n == 8 then StoreRedirection else if n == 9 then CleanData
-    else if n == 10 then CleanLine else if n == 11 then UnaccessedLine else if n == 12 then CleanTag else NoTrapCause
-
-numbered : (rule : Rule) → rule_of (number_of rule) ≡ rule
-unfolding rule_of
-numbered Timing = refl
-numbered EmptyPlace = refl
-numbered WrongPath = refl
-numbered OnPath = refl
-numbered Masked = refl
-numbered DeadRegister = refl
-numbered DeadData = refl
-numbered StoreRedirection = refl
-numbered CleanData = refl
-numbered CleanLine = refl
-numbered UnaccessedLine = refl
-numbered CleanTag = refl
-numbered NoTrapCause = refl
-
-same_rule : (a b : Rule) → number_of a ≡ number_of b → a ≡ b
-same_rule a b e = sym (numbered a) ∙ ap rule_of e ∙ numbered b
 
 -- ---- a bit has one class in a cycle
 
