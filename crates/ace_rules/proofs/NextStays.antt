@@ -68,18 +68,16 @@ passes test t (x ∷ xs) e h = go (passes test t xs e) (nat_le t x.cycle) (test 
 
 -- ---- what it does to the byte
 
-second_true : (x y : Bool) → (x && y) ≡ true → y ≡ true
-second_true true y h = h
-second_true false y h = absurd cc
-
 -- a look-up that misses concerns no byte
-after-told : (kind : EventKind) (held : Bool) (c u : ℕ) → concerns_by kind held ≡ true → u < after (told_by kind held c) → u ≤ c
+after-told : (mine : Bool) (kind : EventKind) (held : Bool) (c u : ℕ) → (mine && concerns_by kind held) ≡ true → u < after (told_by kind held c)
+    → u ≤ c
 unfolding after
-after-told Read held c u h l = omega (arith, l)
-after-told Write true c u h l = omega (arith, l)
-after-told Write false c u h l = omega (arith, l)
-after-told Fill held c u h l = omega (arith, l)
-after-told Miss held c u h l = absurd cc
+after-told true Read held c u h l = omega (arith, l)
+after-told true Write true c u h l = omega (arith, l)
+after-told true Write false c u h l = omega (arith, l)
+after-told true Fill held c u h l = omega (arith, l)
+after-told true Miss held c u h l = absurd cc
+after-told false kind held c u h l = absurd cc
 
 abbrev what : ℕ → Option CacheEvent → Next
 what byte found = option_map_or (λ e. told_by e.kind (holds_byte byte e) e.cycle) found Ends
@@ -93,5 +91,6 @@ next-stays shape l byte t u events le below = go (find (from (concerns shape l b
         → what byte (find (from (concerns shape l byte) u) events) ≡ what byte (find (from (concerns shape l byte) t) events)
     go None h b = ap (what byte) (none-stays (concerns shape l byte) t u le events h ∙ sym h)
     go (Some e) h b =
-        let kind = second_true (is_of_slot shape l e) (concerns_by e.kind (holds_byte byte e)) (passes (concerns shape l byte) t events e h) in
-        ap (what byte) (some-stays (concerns shape l byte) t u le events e h (after-told e.kind (holds_byte byte e) e.cycle u kind b) ∙ sym h)
+        let early : u ≤ e.cycle =
+        after-told (is_of_slot shape l e) e.kind (holds_byte byte e) e.cycle u (passes (concerns shape l byte) t events e h) b in
+        ap (what byte) (some-stays (concerns shape l byte) t u le events e h early ∙ sym h)

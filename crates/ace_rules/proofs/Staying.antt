@@ -14,7 +14,7 @@ use Rattle.need_pass.specs.Tables.{Needs}
 use Rattle.slot_history.specs.Histories.{Histories, held_in, next_change}
 use Rattle.slot_history.specs.declared.changes.Held.{Held}
 use Rattle.slot_history.specs.declared.changes.Held.TheVariants.{Vacant, Clean, Dirty}
-use Rattle.slot_history.proofs.Lists.{same-until}
+use Rattle.slot_history.proofs.Shown.{same-until}
 use Rattle.tag_dist.specs.Tables.{Tables}
 use Rattle.ace_class.specs.declared.class.Class.{Class}
 use Rattle.ace_law.specs.Classes.{IsClass}
