@@ -3,6 +3,8 @@ mod Clocks
 mod OnPath
 mod Judged
 mod Noted
+mod SameMasks
+mod KeptMasks
 mod Walked
 pub mod Told
 mod AccessedAgain
@@ -33,3 +35,6 @@ pub mod Sums
 pub mod Tallies
 mod Popcounts
 mod FirstMasks
+mod NextStays
+mod Staying
+mod Intervals

@@ -1,4 +1,5 @@
 pub mod Notes
+pub mod Situations
 pub mod Walks
 pub mod FirstRules
 pub mod PipelineTests
@@ -10,3 +11,4 @@ pub mod Analyses
 pub mod Sums
 pub mod Tallies
 pub mod RuleMasks
+pub mod Stays
