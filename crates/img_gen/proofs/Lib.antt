@@ -1,4 +1,9 @@
 pub mod Accepted
 pub mod Bodies
+pub mod Coded
 pub mod Fitting
+pub mod Loading
+pub mod Moves
+pub mod Quiet
+pub mod Rounds
 pub mod Sizes
