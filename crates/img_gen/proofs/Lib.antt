@@ -1,9 +1,12 @@
 pub mod Accepted
 pub mod Bodies
 pub mod Coded
+pub mod Ending
 pub mod Fitting
 pub mod Loading
 pub mod Moves
+pub mod Placed
 pub mod Quiet
+pub mod RandomWords
 pub mod Rounds
 pub mod Sizes
