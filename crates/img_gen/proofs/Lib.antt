@@ -1,6 +1,7 @@
 pub mod Accepted
 pub mod Bodies
 pub mod Coded
+pub mod Counted
 pub mod Ending
 pub mod Fitting
 pub mod Loading
