@@ -1,2 +1,9 @@
 mod Grouped
 mod Digits
+mod Orders
+mod UnAce
+mod BitLines
+mod StructureLines
+mod Searched
+mod Reaches
+mod MapsWritten

@@ -4,7 +4,7 @@ ghost use Rattle.bit_field.specs.Shapes.{IsPlaceIn, IsShape};
 ghost use Rattle.class_map.specs.Bounds.{IsBounded};
 ghost use Rattle.class_map.specs.Checks.{HasFault, IsWrong, Passes};
 ghost use Rattle.class_map.specs.Faults as spec;
-ghost use Rattle.class_map.specs.Judging.{ended_line};
+ghost use Rattle.class_map.specs.Judging.{IsInRun, ended_line};
 ghost use Rattle.class_map.specs.Maps.{IsRight};
 ghost use Rattle.class_map.specs.Shown.{shown};
 ghost use Rattle.class_map.specs.Spellings.{Said};
@@ -54,7 +54,8 @@ fn is_within(shape: &Shape, cycles: u32, structure: Structure, words: &Words<'_>
 
 fn placed_at(shape: &Shape, cycles: u32, words: &Words<'_>, structure: Structure) -> Option<MapLine>
     requires { IsShape shape.now }
-    ensures { result ≡ spec.placed_at shape.now cycles (shown words.now) structure }
+    ensures is { result ≡ spec.placed_at shape.now cycles (shown words.now) structure }
+    ensures in_run { IfSome result (λ line. IsInRun shape.now cycles line) }
 {
     if !is_within(shape, cycles, structure, words) {
         return None;
@@ -74,9 +75,22 @@ fn placed_at(shape: &Shape, cycles: u32, words: &Words<'_>, structure: Structure
 #[tactic(auto, unfolding(crate::specs::Faults::placed))]
 fn placed(shape: &Shape, cycles: u32, words: &Words<'_>) -> Option<MapLine>
     requires { IsShape shape.now }
-    ensures { result ≡ spec.placed shape.now cycles (shown words.now) }
+    ensures is { result ≡ spec.placed shape.now cycles (shown words.now) }
+    ensures in_run { IfSome result (λ line. IsInRun shape.now cycles line) }
 {
     placed_at(shape, cycles, words, structure_of(words.name)?)
+}
+
+fn in_order(before: &Option<MapLine>, line: MapLine) -> Result<Option<MapLine>, Fault>
+    ensures is { result ≡ (if follows before.now line then Ok (Some line) else Err Fault.OutOfOrder) }
+    ensures behind { IfOk result (λ head. head ≡ Some line) }
+    ensures follows { OnOk result (follows before.now line ≡ true) }
+{
+    if follows(before, &line) {
+        Ok(Some(line))
+    } else {
+        Err(Fault::OutOfOrder)
+    }
 }
 
 fn ordered(before: &Option<MapLine>, line: Option<MapLine>) -> Result<Option<MapLine>, Fault>
@@ -84,8 +98,7 @@ fn ordered(before: &Option<MapLine>, line: Option<MapLine>) -> Result<Option<Map
 {
     match line {
         None => Err(Fault::OutOfRange),
-        Some(line) if follows(before, &line) => Ok(Some(line)),
-        Some(_) => Err(Fault::OutOfOrder),
+        Some(line) => in_order(before, line),
     }
 }
 

@@ -1,5 +1,5 @@
 // The lines of the map of a run, one after the other.
-ghost use Rattle.std.specs.Prelude.{◌≡◌, ◌<◌, ◌≤◌, ◌+◌, ◌↔◌, ℕ, IfSome, IsTrue, Some, option_map};
+ghost use Rattle.std.specs.Prelude.{◌≡◌, ◌<◌, ◌≤◌, ◌+◌, ◌==◌, ◌↔◌, ℕ, IfSome, IsTrue, Some, if◌then◌else◌, option_map};
 ghost use Rattle.bit_field.specs.Shapes.{IsPlaceIn, bits_in};
 ghost use Rattle.ace_class.specs.Counts.{place_of, structures};
 ghost use Rattle.ace_class.specs.declared.class.Class.TheVariants.{Ace};
@@ -78,6 +78,13 @@ fn line_in_bit(a: &Analysis<'_>, place: &Place, from: u32) -> Option<MapLine>
     None
 }
 
+// The cycle to begin with in a bit.
+fn start_in(later: u32, bit: u32, from: u32) -> u32
+    ensures { result ≡ (if later == bit then from else 0) }
+{
+    if later == bit { from } else { 0 }
+}
+
 // The first line in a structure from a cycle of a bit on, where no line of the bit goes on in that cycle.
 fn line_in_structure(a: &Analysis<'_>, structure: Structure, bit: u32, from: u32) -> Option<MapLine>
     requires { bit < bits_in structure a.now.r.shape → IsBorder a.now (record { structure = structure; bit = bit }) from }
@@ -90,9 +97,8 @@ fn line_in_structure(a: &Analysis<'_>, structure: Structure, bit: u32, from: u32
             structure,
             bit: later,
         };
-        let found = line_in_bit(a, &place, if later == bit { from } else { 0 });
-        if found.is_some() {
-            return found;
+        if let Some(line) = line_in_bit(a, &place, start_in(later, bit, from)) {
+            return Some(line);
         }
     }
     None
@@ -129,9 +135,8 @@ fn line_among(
     ensures { IsNext a.now (option_map (λ line. line.now) before.entry) result }
 {
     for structure in among {
-        let found = line_in(a, *structure, before);
-        if found.is_some() {
-            return found;
+        if let Some(line) = line_in(a, *structure, before) {
+            return Some(line);
         }
     }
     None

@@ -37,6 +37,7 @@ pub fn write_map<K: Sink>(a: &Analysis<'_>, out: &mut K) -> Result<(), Failed>
     ensures err { OnErr result (IsFrontWritten a.now (K.taken out.old) (K.taken out.new)) }
     ensures cause { HasCause (K.faults out.old) (K.faults out.new) result }
 {
+    a.recorded().is_record();
     write_head(a, out)?;
     let mut last = None;
     while let Some(line) = next_line(a, last.as_ref()) {
