@@ -7,3 +7,8 @@ mod StructureLines
 mod Searched
 mod Reaches
 mod MapsWritten
+mod FileLines
+mod Checked
+mod Rounds
+mod RoundTrips
+mod HarmlessLines

@@ -1,7 +1,8 @@
 -- Lines of the map that are written one after the other.
-use Rattle.std.proofs.Common.{◌≡◌, ℕ, suc, ◌+◌, ◌-◌, ◌^◌, ◌<◌, ◌≤◌, List, [], ◌∷◌, ◌++◌, length, take, Option, None, Some, IfSome, refl, sym, ap, ◌∙◌, subst, append_assoc, append-nil, arith}
+use Rattle.std.proofs.Common.{◌≡◌, ℕ, ◌+◌, ◌-◌, ◌^◌, ◌<◌, ◌≤◌, List, [], ◌∷◌, ◌++◌, length, take, Option, None, Some, IfSome, refl, sym, ap, ◌∙◌, subst, append_assoc, append-nil, arith}
 use Rattle.std.specs.Prelude.{Result, Ok, Err, OnErr}
 use Rattle.std.proofs.Math.ListN.{length-append}
+use Rattle.std.proofs.Math.Seq.{take-append-add}
 use Rattle.avf_base.specs.Causes.{Rose}
 use Rattle.avf_base.specs.Moves.{Grows, GrowsByFront}
 use Rattle.bit_field.specs.Shapes.{IsShape}
@@ -53,18 +54,10 @@ grown_more a None (Some z) xs ys p q = absurd q
 grown_more None (Some y) (Some z) xs ys p q = absurd p
 grown_more (Some x) (Some y) (Some z) xs ys p q = q ∙ ap (λ l. l ++ ys) p ∙ append_assoc x xs ys
 
-take_more : (n : ℕ) (xs ys : List ℕ) → take (length xs + n) (xs ++ ys) ≡ xs ++ take n ys
-take_more n [] ys = ap (λ (k : ℕ). take k ys) (omega arith)
-take_more n (x ∷ xs) ys =
-    ap (λ (k : ℕ). take k (x ∷ xs ++ ys)) (next (length xs) n) ∙ ap (λ l. x ∷ l) (take_more n xs ys)
-  where
-    next : (a n : ℕ) → suc a + n ≡ suc (a + n)
-    next a n = omega arith
-
 front_more : (a b c : Option (List ℕ)) (xs ys : List ℕ) → Grows a b xs → GrowsByFront b c ys → GrowsByFront a c (xs ++ ys)
 front_more a b c xs ys p q =
     (length xs + q.0, (let e : length (xs ++ ys) ≡ length xs + length ys = length-append xs ys in let l = q.1 in omega (arith, e, l)),
-    subst (Grows a c) (sym (take_more q.0 xs ys)) (grown_more a b c xs (take q.0 ys) p q.2))
+    subst (Grows a c) (sym (take-append-add xs ys q.0)) (grown_more a b c xs (take q.0 ys) p q.2))
 
 -- the first lines are written, up to this one
 pub record IsSoFar (story : Story) (old new : Option (List ℕ)) (last : Option MapLine) : Type 0 where

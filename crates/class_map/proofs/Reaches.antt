@@ -2,9 +2,13 @@
 use Rattle.std.proofs.Common.{◌≡◌, ℕ, ◌+◌, ◌-◌, ◌*◌, ◌^◌, ◌<◌, ◌≤◌, true, Option, None, Some, IfSome, arith}
 use Rattle.std.specs.Prelude.{◌==◌, nat_le, nat_lt, if◌then◌else◌}
 use Rattle.std.proofs.lemmas.Bool.Decides.{nat_tests}
+use Rattle.bit_field.specs.Shapes.{IsShape}
+use Rattle.bit_field.specs.declared.shapes.Shape.{Shape}
 use Rattle.ace_class.specs.Counts.{place_of}
+use Rattle.ace_class.proofs.Sizes.{bits_in_most}
 use Rattle.class_map.specs.Bounds.{IsBounded, IsFurther, furthest, reach}
-use Rattle.class_map.specs.Lines.{follows, pairs_of}
+use Rattle.class_map.specs.Judging.{IsSensible}
+use Rattle.class_map.specs.Lines.{pairs_of}
 use Rattle.class_map.specs.declared.map_line.MapLine.{MapLine}
 use Rattle.class_map.specs.declared.progress.Progress.{Progress}
 use Rattle.class_map.proofs.Orders.{place_most}
@@ -27,3 +31,13 @@ reach-most (Some l) bit to = let most = place_most l.place.structure in omega (a
 -- so lines and pairs are few
 pub few : (p : Progress) → IsBounded p → (p.seen < furthest + 3) × (p.pairs < furthest)
 few p h = let most = reach-most p.before h.bit h.to in (omega (arith, most, h.seen), omega (arith, most, h.pairs))
+
+-- a line that fits to its place
+pub sensible-further : (shape : Shape) (cycles : ℕ) (before : Option MapLine) (line : MapLine) → IsShape shape → cycles < 2 ^ 32
+    → IsSensible shape cycles before line → IsFurther before line
+sensible-further shape cycles before line fits short h = record {
+  follows = h.follows;
+  some = h.in_run.some;
+  bit = (let most = bits_in_most line.place.structure shape fits in let inside = h.in_run.place in omega (arith, most, inside));
+  to = (let within = h.in_run.within in omega (arith, within, short));
+}

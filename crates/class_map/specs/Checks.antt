@@ -1,5 +1,5 @@
 -- What is due to a file that is checked: it is accepted, or its first fault is told.
-use Rattle.std.specs.Prelude.{◌≡◌, ℕ, ◌+◌, ◌<◌, ◌≤◌, ◌^◌, List, [], ◌∷◌, ◌++◌, Option, None, Some, IfSome, Result, Ok, Err, slice_get, true}
+use Rattle.std.specs.Prelude.{◌≡◌, ◌⊎◌, ℕ, ◌+◌, ◌<◌, ◌≤◌, ◌^◌, List, [], ◌∷◌, ◌++◌, Option, None, Some, IfSome, Result, Ok, Err, length, true}
 use Rattle.avf_base.specs.Causes.{Rose}
 use Rattle.run_record.specs.Verdict.{HasSame, flipped}
 use Rattle.ace_rules.specs.Notes.{Story}
@@ -9,7 +9,7 @@ use Rattle.class_map.specs.Texts.{spelled}
 use Rattle.class_map.specs.declared.error.MapError.{MapError}
 use Rattle.class_map.specs.declared.error.MapError.TheVariants.{Bad, ReadFault}
 use Rattle.class_map.specs.declared.fault.Fault.{Fault}
-use Rattle.class_map.specs.declared.fault.Fault.TheVariants.{Misspelled, OtherRun, OutOfRange, OutOfOrder, OtherClass}
+use Rattle.class_map.specs.declared.fault.Fault.TheVariants.{Misspelled, OtherClass}
 use Rattle.class_map.specs.declared.map_line.MapLine.{MapLine}
 use Rattle.class_map.specs.declared.progress.Progress.{Progress}
 
@@ -27,10 +27,16 @@ pub record Passes (story : Story) (p : Progress) (line : FileLine) (q : Progress
   pub right : IfSome head (IsRight story)
   pub behind : q ≡ behind p head
 
+-- the line has no other fault, but in some cycle the bit isn't un-ACE by this rule
+pub record IsOfOtherClass (story : Story) (p : Progress) (line : FileLine) (fault : Fault) : Type 0 where
+  pub said : MapLine
+  pub reads : reads story.r p line ≡ Ok (Some said)
+  pub wrong : IsWrong story said
+  pub is : fault ≡ OtherClass
+
 -- this is the first fault of the line
 abbrev pub HasFault : Story → Progress → FileLine → Fault → Type 0
-HasFault story p line OtherClass = (said : MapLine) × (reads story.r p line ≡ Ok (Some said)) × IsWrong story said
-HasFault story p line fault = reads story.r p line ≡ Err fault
+HasFault story p line fault = (reads story.r p line ≡ Err fault) ⊎ IsOfOtherClass story p line fault
 
 -- of the lines that are left, the first has this fault; or none is left, and the first three aren't all there
 abbrev pub StopsAt : Story → Progress → List FileLine → Fault → Type 0
@@ -74,9 +80,9 @@ pub record IsSpellable (line : MapLine) : Type 0 where
   pub to : line.to < 2 ^ 32
   pub rule : line.rule < 2 ^ 8
 
--- behind the first three, each line that spells an interval of a bit's cycles speaks of harmless pairs alone
+-- each line behind the first three that spells an interval of a bit's cycles speaks of harmless pairs alone
 abbrev pub IsHarmless : Story → List ℕ → Type 0
 IsHarmless story bytes =
-    (i : ℕ) (line : MapLine) → 3 ≤ i → IsSpellable line
-    → slice_get (lines_of bytes) i ≡ Some (let l : FileLine = record { text = spelled line; is_ended = true } in l)
+    (before after : List FileLine) (line : MapLine) → 3 ≤ length before → IsSpellable line
+    → lines_of bytes ≡ before ++ record { text = spelled line; is_ended = true } ∷ after
     → (t : ℕ) → line.from ≤ t → t < line.to → HasSame story.r t (flipped story.r t line.place)

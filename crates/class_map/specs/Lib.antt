@@ -7,5 +7,6 @@ pub mod Maps
 pub mod Searches
 pub mod Written
 pub mod Judging
+pub mod Pieces
 pub mod Faults
 pub mod Checks

@@ -1,13 +1,13 @@
 // One more line of a file, judged.
-ghost use Rattle.std.specs.Prelude.{◌≡◌, ◌<◌, ◌≤◌, ◌+◌, IfErr, IfSome, IsTrue, None, Ok, OnErr, OnOk, Some, false, length, option_map};
+ghost use Rattle.std.specs.Prelude.{◌≡◌, ◌≤◌, ◌+◌, Err, IfErr, IfOk, IfSome, IsTrue, MatchOption, None, Ok, OnErr, OnOk, Some, false, true, if◌then◌else◌, length, option_map};
 ghost use Rattle.bit_field.specs.Shapes.{IsPlaceIn, IsShape};
-ghost use Rattle.class_map.specs.Bounds.{IsBounded};
+ghost use Rattle.class_map.specs.Bounds.{IsBounded, IsFurther};
 ghost use Rattle.class_map.specs.Checks.{HasFault, IsWrong, Passes};
 ghost use Rattle.class_map.specs.Faults as spec;
-ghost use Rattle.class_map.specs.Judging.{IsInRun, ended_line};
+ghost use Rattle.class_map.specs.Judging.{IsFit, IsInRun, IsSensible, ended_line};
+ghost use Rattle.class_map.specs.Lines.{follows};
 ghost use Rattle.class_map.specs.Maps.{IsRight};
 ghost use Rattle.class_map.specs.Shown.{shown};
-ghost use Rattle.class_map.specs.Spellings.{Said};
 
 use crate::fault::Fault;
 use crate::map_line::{MapLine, follows};
@@ -22,7 +22,8 @@ use run_record::Recorded;
 pub(crate) const LONGEST_LINE: usize = 64;
 
 fn title_line(text: &[u8]) -> Result<Option<MapLine>, Fault>
-    ensures { result ≡ spec.title_line text.now }
+    ensures is { result ≡ spec.title_line text.now }
+    ensures head { IfOk result (λ head. head ≡ None) }
 {
     if text == b"avf-map 1".as_slice() {
         Ok(None)
@@ -32,7 +33,8 @@ fn title_line(text: &[u8]) -> Result<Option<MapLine>, Fault>
 }
 
 fn count_line(number: Option<u32>, due: u32) -> Result<Option<MapLine>, Fault>
-    ensures { result ≡ spec.count_line number due }
+    ensures is { result ≡ spec.count_line number due }
+    ensures head { IfOk result (λ head. head ≡ None) }
 {
     match number {
         None => Err(Fault::Misspelled),
@@ -83,7 +85,7 @@ fn placed(shape: &Shape, cycles: u32, words: &Words<'_>) -> Option<MapLine>
 
 fn in_order(before: &Option<MapLine>, line: MapLine) -> Result<Option<MapLine>, Fault>
     ensures is { result ≡ (if follows before.now line then Ok (Some line) else Err Fault.OutOfOrder) }
-    ensures behind { IfOk result (λ head. head ≡ Some line) }
+    ensures head { IfOk result (λ head. head ≡ Some line) }
     ensures follows { OnOk result (follows before.now line ≡ true) }
 {
     if follows(before, &line) {
@@ -93,9 +95,18 @@ fn in_order(before: &Option<MapLine>, line: MapLine) -> Result<Option<MapLine>, 
     }
 }
 
-fn ordered(before: &Option<MapLine>, line: Option<MapLine>) -> Result<Option<MapLine>, Fault>
-    ensures { result ≡ spec.ordered before.now line }
+fn ordered(
+    shape: &Shape,
+    cycles: u32,
+    before: &Option<MapLine>,
+    line: Option<MapLine>,
+) -> Result<Option<MapLine>, Fault>
+    requires { IfSome line (IsInRun shape.now cycles) }
+    ensures is { result ≡ spec.ordered before.now line }
+    ensures sensible { IfOk result (λ head. MatchOption head ⊥ (IsSensible shape.now cycles before.now)) }
 {
+    let _shape = shape;
+    let _cycles = cycles;
     match line {
         None => Err(Fault::OutOfRange),
         Some(line) => in_order(before, line),
@@ -109,11 +120,12 @@ fn meant(
     words: Option<Words<'_>>,
 ) -> Result<Option<MapLine>, Fault>
     requires { IsShape shape.now }
-    ensures { result ≡ spec.meant shape.now cycles before.now (option_map shown words.entry) }
+    ensures is { result ≡ spec.meant shape.now cycles before.now (option_map shown words.entry) }
+    ensures sensible { IfOk result (λ head. MatchOption head ⊥ (IsSensible shape.now cycles before.now)) }
 {
     match words {
         None => Err(Fault::Misspelled),
-        Some(words) => ordered(before, placed(shape, cycles, &words)),
+        Some(words) => ordered(shape, cycles, before, placed(shape, cycles, &words)),
     }
 }
 
@@ -124,7 +136,9 @@ fn says(
     progress: &Progress,
     text: &[u8],
 ) -> Result<Option<MapLine>, Fault>
-    ensures { result ≡ spec.says recorded.now progress.now text.now }
+    ensures is { result ≡ spec.says recorded.now progress.now text.now }
+    ensures fit { IfOk result (IsFit recorded.now progress.now) }
+    ensures short { OnOk result (length text.now ≤ LONGEST_LINE) }
 {
     if text.len() > LONGEST_LINE {
         return Err(Fault::Misspelled);
@@ -157,4 +171,46 @@ fn is_right(a: &Analysis<'_>, line: &MapLine) -> bool
         cycle = a.same_until(&line.place, cycle);
     }
     true
+}
+
+// Reads what a line says against the classes of the run.
+fn pass(a: &Analysis<'_>, progress: &mut Progress, line: &MapLine) -> Result<(), Fault>
+    requires bounded { IsBounded progress.old }
+    requires place { IsPlaceIn a.now.r.shape line.now.place }
+    requires within { line.now.to ≤ a.now.r.cycles }
+    requires further { IsFurther progress.old.before line.now }
+    ensures right { OnOk result (IsRight a.now line.now) }
+    ensures passed { OnOk result (progress.new ≡ spec.behind progress.old (Some line.now)) }
+    ensures wrong { OnErr result (IsWrong a.now line.now) }
+    ensures cause { IfErr result (λ fault. fault ≡ Fault.OtherClass) }
+    ensures kept { OnErr result (progress.new ≡ progress.old) }
+    ensures bounded { IsBounded progress.new }
+{
+    if !is_right(a, line) {
+        return Err(Fault::OtherClass);
+    }
+    progress.pass_line(line);
+    Ok(())
+}
+
+/// Judges the next line, without its line feed. Where it has a fault, nothing changes.
+pub(crate) fn judge(a: &Analysis<'_>, progress: &mut Progress, text: &[u8]) -> Result<(), Fault>
+    requires bounded { IsBounded progress.old }
+    ensures ok { OnOk result (Passes a.now progress.old (ended_line text.now) progress.new) }
+    ensures err { IfErr result (λ fault. HasFault a.now progress.old (ended_line text.now) fault) }
+    ensures kept { OnErr result (progress.new ≡ progress.old) }
+    ensures bounded { IsBounded progress.new }
+    ensures seen { OnOk result (progress.new.seen ≡ progress.old.seen + 1) }
+    ensures short { OnOk result (length text.now ≤ LONGEST_LINE) }
+{
+    let recorded = a.recorded();
+    recorded.is_record();
+    match says(recorded, progress, text) {
+        Err(fault) => Err(fault),
+        Ok(None) => {
+            progress.pass_head();
+            Ok(())
+        }
+        Ok(Some(line)) => pass(a, progress, &line),
+    }
 }

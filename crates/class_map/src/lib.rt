@@ -8,6 +8,7 @@
 // - check, error: a file read in pieces and judged line by line.
 #![tactic(auto)]
 
+mod check;
 mod error;
 mod fault;
 mod judge;
@@ -18,6 +19,7 @@ mod spelling;
 mod text;
 mod write;
 
+pub use check::check_map;
 pub use error::MapError;
 pub use map_line::MapLine;
 pub use next::next_line;
