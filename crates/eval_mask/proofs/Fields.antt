@@ -6,8 +6,9 @@ use Rattle.bit_field.specs.Layouts.{bits_of, flip, flip_by, located}
 use Rattle.bit_field.proofs.Located.{located-here, located-none, located-on}
 use Rattle.pipe_latch.specs.DecodedBits as decoded
 use Rattle.pipe_latch.specs.ExecutedBits as executed
-use Rattle.pipe_latch.specs.Latches.{DecodedLatch}
+use Rattle.pipe_latch.specs.Latches.{DecodedLatch, ExecutedLatch}
 use Rattle.pipe_latch.specs.ResultBits as result
+use Rattle.pipe_latch.specs.declared.ex_mem.ExMemField.TheVariants.{Valid as Occupied, Kind, Rd as Result, X, Y, Cause}
 use Rattle.pipe_latch.specs.declared.id_ex.IdExField.{IdExField}
 use Rattle.pipe_latch.specs.declared.id_ex.IdExField.TheVariants.{Valid, Pc, Op, Rd, Rs1, Rs2, A, B, Imm, Count}
 use Rattle.eval_mask.specs.LatchMasks.{decoded_field, executed_field, is_in, result_field}
@@ -157,3 +158,6 @@ b_flipped d i l = sym (ap (flip_by (decoded.flip_in d) d) (place_of decoded.widt
 pub immediate_flipped : (d : DecodedLatch) (i : ℕ) → i < 32 → (record d { imm = flip d.imm i }) ≡ decoded.flipped d (116 + i)
 immediate_flipped d i l =
     sym (ap (flip_by (decoded.flip_in d) d) (place_of decoded.width (Valid ∷ Pc ∷ Op ∷ Rd ∷ Rs1 ∷ Rs2 ∷ A ∷ B ∷ []) Imm (Count ∷ []) i l))
+
+pub y_flipped : (m : ExecutedLatch) (i : ℕ) → i < 32 → (record m { y = flip m.y i }) ≡ executed.flipped m (43 + i)
+y_flipped m i l = sym (ap (flip_by (executed.flip_in m) m) (place_of executed.width (Occupied ∷ Kind ∷ Result ∷ X ∷ []) Y (Cause ∷ []) i l))

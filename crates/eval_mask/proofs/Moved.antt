@@ -153,3 +153,16 @@ kept_never needs arch w m d case n below is change on goes same reads =
     let k : IsKept needs arch w m d case n below = record { is = is; change = change; reached = on; goes = goes; same = same } in
     masked_never needs case.first_after arch case.oldest.rd case.oldest.value case.npc case.issued (record { w = w; m = m; d = d })
     (record { w = w; m = n; d = d }) (kept_clock needs arch w m d case n below k ∙ reads)
+
+-- ---- a store that stays
+
+store_kept : (image : LoadedImage) (first : Write) (own below : Change) (doing : Doing) (memory : ℕ → ℕ) → below.store ≡ own.store
+    → (record (left_by image first own doing memory) { below = below }) ≡ left_by image first below doing memory
+unfolding left_by
+store_kept image first own below doing memory e = rw e refl
+
+pub same_store_left : (image : LoadedImage) (own : Aftermath) (below : Change) (doing : Doing) (memory : ℕ → ℕ) → below.store ≡ own.below.store
+    → own ≡ left_by image own.first own.below doing memory → (record own { below = below }) ≡ left_by image own.first below doing memory
+same_store_left image own below doing memory e is =
+    subst (λ (o : Aftermath). (record o { below = below }) ≡ left_by image own.first below doing memory) (sym is)
+    (store_kept image own.first own.below below doing memory e)

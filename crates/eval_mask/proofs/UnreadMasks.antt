@@ -1,29 +1,35 @@
 -- A field of ID/EX that isn't read: all its bits are masked, or none where a read of the cycle counter is completed.
 use Rattle.std.proofs.Common.{◌≡◌, ◌↔◌, ℕ, ◌+◌, ◌-◌, ◌^◌, ◌<◌, ◌≤◌, Bool, true, false, refl, sym, ◌∙◌, ap, subst, arith, inl, inr}
 use Rattle.std.specs.Int.{bit_at}
-use Rattle.std.specs.Prelude.{◌&&◌, IsTrue, if◌then◌else◌}
+use Rattle.std.specs.Prelude.{◌&&◌, IsTrue, not, if◌then◌else◌}
 use Rattle.std.proofs.lemmas.Bool.{cases_lt}
 use Rattle.std.proofs.lemmas.Nat.Bits.{bit_at-zero, bit_at_ones, bit_at_ones_above}
 use Rattle.elf_load.specs.Image.{LoadedImage}
 use Rattle.rv_table.specs.Actions.{is_clocked}
 use Rattle.rv_isa.specs.Architecture.{ArchState, state_of}
 use Rattle.rv_isa.specs.Instruction.{end_of}
+use Rattle.bit_field.specs.Layouts.{flip}
+use Rattle.rv_table.specs.declared.action.Action.TheVariants.{Nothing}
 use Rattle.pipe_latch.specs.DecodedBits as decoded
-use Rattle.pipe_latch.specs.LatchedActions.{action_of}
+use Rattle.pipe_latch.specs.ExecutedBits as executed
+use Rattle.pipe_latch.specs.LatchedActions.{action_by, action_of, kind_of}
+use Rattle.pipe_latch.specs.declared.kinds.ExMemKind.{ExMemKind}
+use Rattle.pipe_latch.specs.declared.kinds.ExMemKind.TheVariants.{WriteBack, Load, Store, Put, Exit, Trap}
 use Rattle.pipe_latch.specs.Latches.{DecodedLatch, ExecutedLatch, ResultLatch, op_of_latch}
 use Rattle.need_pass.specs.Tables.{Needs}
 use Rattle.eval_mask.specs.Aftermaths.{aftermath_of, change_of, doing_of, is_completed, left_by, no_change, write_held}
 use Rattle.eval_mask.specs.Cases.{IsCase, IsMaskBelow}
-use Rattle.eval_mask.specs.LatchMasks.{IsDecodedMasked, base_of, reads_clock}
-use Rattle.eval_mask.specs.Unread.{DoesTheSame}
+use Rattle.eval_mask.specs.LatchMasks.{IsDecodedMasked, IsExecutedMasked, base_of, reads_clock}
+use Rattle.eval_mask.specs.Unread.{DoesTheSame, is_store}
 use Rattle.eval_mask.specs.declared.cases.Case.{Case}
 use Rattle.eval_mask.specs.declared.completing.Aftermath.{Aftermath}
 use Rattle.eval_mask.specs.declared.completing.Doing.{Doing}
 use Rattle.eval_mask.proofs.Completed.{doing_told}
 use Rattle.eval_mask.proofs.Doings.{agrees_itself, completed_same}
-use Rattle.eval_mask.proofs.Fields.{decoded_inside, flip_keeps}
-use Rattle.eval_mask.proofs.Masked.{IsAskedOf, decoded_exactly, masked_exactly, no_both}
+use Rattle.eval_mask.proofs.Fields.{decoded_inside, executed_inside, flip_keeps, y_flipped}
+use Rattle.eval_mask.proofs.Masked.{IsAskedOf, decoded_exactly, executed_exactly, masked_exactly, no_both}
 use Rattle.eval_mask.proofs.OwnChange.{own_write}
+use Rattle.eval_mask.proofs.UnreadBits.{unread_exactly}
 
 still_own : (image : LoadedImage) (w : ResultLatch) (m : ExecutedLatch) (d other : DecodedLatch) (memory : ℕ → ℕ) (npc x : ℕ)
     → is_completed m other npc ≡ is_completed m d npc → doing_of image w m other memory x ≡ doing_of image w m d memory x
@@ -120,3 +126,39 @@ unread_field needs arch w m d case from is on above below same =
     whole_by case.reads_clock (λ i. IsDecodedMasked needs arch (record { w = w; m = m; d = d }) case.oldest.value case.npc case.issued (from + i))
     (λ unread i l. unread_masked needs arch w m d case (from + i) is on (omega arith) (omega arith) (same i l) unread)
     (λ reads i l. clock_unmasked needs arch w m d case (from + i) is (omega arith) (omega arith) (same i l) reads)
+
+-- ---- the value to store of EX/MEM
+
+y_by : (occupied : Bool) (kind : ExMemKind) (m : ExecutedLatch) (v : ℕ) → is_store (if occupied then action_by kind m else Nothing) ≡ false
+    → (if occupied then action_by kind (record m { y = v }) else Nothing) ≡ (if occupied then action_by kind m else Nothing)
+y_by false kind m v e = refl
+y_by true WriteBack m v e = refl
+y_by true (Load kind) m v e = refl
+y_by true (Store kind) m v e = absurd (grind arith)
+y_by true Put m v e = refl
+y_by true Exit m v e = refl
+y_by true Trap m v e = refl
+
+y_unread : (m : ExecutedLatch) (v : ℕ) → is_store (action_of m) ≡ false → action_of (record m { y = v }) ≡ action_of m
+unfolding action_of
+y_unread m v e = y_by m.valid (kind_of m.kind) m v e
+
+y_bit : (needs : Needs) (arch : ArchState) (w : ResultLatch) (m : ExecutedLatch) (d : DecodedLatch) (case : Case) (i : ℕ) → IsCase needs arch w m d case
+    → is_store case.executed ≡ false → i < 32
+    → IsTrue (not case.reads_clock) ↔ IsExecutedMasked needs arch (record { w = w; m = m; d = d }) case.oldest.value case.npc case.issued (43 + i)
+y_bit needs arch w m d case i is no_store l =
+    let same =
+    ap action_of (sym (y_flipped m i l)) ∙ y_unread m (flip m.y i) (ap is_store (sym is.executed) ∙ no_store) in
+    executed_exactly needs arch w m d case (43 + i) (not case.reads_clock) is (executed_inside (43 + i) (omega arith))
+    (unread_exactly needs arch w m (executed.flipped m (43 + i)) d case is same)
+
+pub unread_y : (needs : Needs) (arch : ArchState) (w : ResultLatch) (m : ExecutedLatch) (d : DecodedLatch) (case : Case) → IsCase needs arch w m d case
+    → is_store case.executed ≡ false
+    → IsMaskBelow 32 (λ i. IsExecutedMasked needs arch (record { w = w; m = m; d = d }) case.oldest.value case.npc case.issued (43 + i)) (if case.reads_clock then 0 else 2 ^ 32 - 1)
+unread_y needs arch w m d case is no_store =
+    whole_by case.reads_clock (λ i. IsExecutedMasked needs arch (record { w = w; m = m; d = d }) case.oldest.value case.npc case.issued (43 + i))
+    (λ unread i l. (y_bit needs arch w m d case i is no_store l).0 (rw unread refl))
+    (λ reads i l s. not_both case.reads_clock reads ((y_bit needs arch w m d case i is no_store l).1 s))
+  where
+    not_both : (t : Bool) → t ≡ true → IsTrue (not t) → ⊥
+    not_both t e n = grind arith

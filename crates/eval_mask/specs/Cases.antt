@@ -5,6 +5,7 @@ use Rattle.rv_table.specs.declared.action.Action.{Action}
 use Rattle.rv_table.specs.declared.action.Action.TheVariants.{Writes}
 use Rattle.rv_isa.specs.Architecture.{ArchState, state_of}
 use Rattle.pipe_latch.specs.Latches.{DecodedLatch, ExecutedLatch, ResultLatch}
+use Rattle.pipe_latch.specs.LatchedActions.{action_of}
 use Rattle.need_pass.specs.Tables.{Needs}
 use Rattle.eval_mask.specs.Aftermaths.{aftermath_of, doing_of, is_completed, operand_after, state_after, written}
 use Rattle.eval_mask.specs.Agreement.{Agree}
@@ -18,6 +19,7 @@ pub record IsCase (needs : Needs) (arch : ArchState) (w : ResultLatch) (m : Exec
   pub oldest : case.oldest.rd ≡ w.rd
   pub first : case.first_after ≡ first_after needs d case.npc case.issued
   pub path : case.on_path ≡ is_on_path needs d case.npc case.issued
+  pub executed : case.executed ≡ action_of m
   pub reached : case.reached ≡ is_completed m d case.npc
   pub clock : case.reads_clock
       ≡ reads_clock arch.image (record { w = w; m = m; d = d }) (base_of arch case.oldest.rd case.oldest.value case.npc case.issued)

@@ -2,6 +2,8 @@
 use Rattle.std.specs.Prelude.{◌≡◌, ℕ, ◌==◌, ◌||◌, ◌&&◌, Bool, true, false, not}
 use Rattle.elf_load.specs.Image.{LoadedImage}
 use Rattle.rv_table.specs.Actions.{is_clocked}
+use Rattle.rv_table.specs.declared.action.Action.{Action}
+use Rattle.rv_table.specs.declared.action.Action.TheVariants.{Stores}
 use Rattle.rv_table.specs.Operations.{operation_of}
 use Rattle.rv_table.specs.declared.operation.Operation.{Operation}
 use Rattle.rv_table.specs.declared.operation.Operation.TheVariants.{Lui, Auipc, Jal, Jalr, Branch, Load, Store, AluImmediate, Alu, Ecall}
@@ -56,3 +58,8 @@ is_immediate_unread d = not (reads_immediate (operation_of d.op))
 pub record DoesTheSame (w : ResultLatch) (below : Write) (d other : DecodedLatch) : Type 0 where
   pub doing : (image : LoadedImage) (x : ℕ) → doing_after image w other below x ≡ doing_after image w d below x
   pub clock : is_clocked (op_of_latch other) ≡ is_clocked (op_of_latch d)
+
+-- a store, the only action that shows the value to store
+abbrev pub is_store : Action → Bool
+is_store (Stores kind address value) = true
+is_store _ = false

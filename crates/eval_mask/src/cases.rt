@@ -11,7 +11,7 @@ ghost use Rattle.eval_mask.specs.Compared.{IsKnown, need_at};
 ghost use Rattle.eval_mask.specs.LatchMasks as masks;
 ghost use Rattle.eval_mask.specs.LatchMasks.{IsMasked, Latches, base_of};
 
-use crate::compare::{Known, agree, known_needs, same_word};
+use crate::compare::{Known, agree, known_needs, same_store, same_word};
 use crate::completing::{
     Aftermath, Change, Doing, Write, completed, doing_of, executed_change, is_completed, left_by,
     operand_after,
@@ -35,6 +35,8 @@ pub struct Case {
     pub first_after: u32,
     /// Whether completing the latches as they are completes a read of the cycle counter.
     pub reads_clock: bool,
+    /// What EX/MEM does.
+    pub executed: Action,
     /// Whether ID/EX is completed.
     pub reached: bool,
     /// What the instruction in ID/EX does.
@@ -98,6 +100,7 @@ pub fn case_of(
         on_path,
         first_after,
         reads_clock: reads_clock(m, d, npc),
+        executed: m.action(),
         reached: is_completed(m, d, npc),
         doing: doing_of(w, d, &below.write, issued, arch.image()),
         own,
@@ -219,4 +222,19 @@ pub fn is_kept(case: &Case, w: &MemWb, d: &IdEx, below: &Change) -> bool
     ensures operands { IsTrue result → spec.SameOperands w.now d.now below.now.write case.now }
 {
     case.reached && below.end.is_none() && same_operands(case, w, d, &below.write)
+}
+
+/// What is left where EX/MEM changes `below` and ID/EX does the same. What ID/EX changes depends on EX/MEM's store alone.
+#[tactic(auto, using(crate::proofs::Moved::same_store_left))]
+pub fn left_with(arch: &Arch<'_>, case: &Case, below: &Change) -> Aftermath
+    requires own { case.now.own ≡ leaving.left_by arch.now.image case.now.own.first case.now.own.below case.now.doing (state_of arch.now).memory }
+    ensures { result ≡ leaving.left_by arch.now.image case.now.own.first below.now case.now.doing (state_of arch.now).memory }
+{
+    if same_store(&below.store, &case.own.below.store) {
+        return Aftermath {
+            below: *below,
+            ..case.own
+        };
+    }
+    left_by(arch, &case.own.first, below, &case.doing)
 }

@@ -318,7 +318,8 @@ fn same_covered(
     }
 }
 
-fn same_store(a: &Option<Store>, b: &Option<Store>) -> bool
+/// Whether two stores, or none, are the same.
+pub fn same_store(a: &Option<Store>, b: &Option<Store>) -> bool
     ensures { IsTrue result ↔ (a.now ≡ b.now) }
 {
     *a == *b

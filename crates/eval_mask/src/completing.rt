@@ -187,11 +187,18 @@ fn store_by(image: &Image, action: &Action) -> Option<Store>
     }
 }
 
+/// What EX/MEM changes over the memory of `arch`, if it does this.
+pub fn action_change(arch: &Arch<'_>, action: &Action) -> Change
+    ensures { result ≡ spec.change_of arch.now.image action.now (state_of arch.now).memory }
+{
+    change_of(arch, &None, action)
+}
+
 /// What EX/MEM changes over the memory of `arch`.
 pub fn executed_change(arch: &Arch<'_>, m: &ExMem) -> Change
     ensures { result ≡ spec.change_of arch.now.image (action_of m.now) (state_of arch.now).memory }
 {
-    change_of(arch, &None, &m.action())
+    action_change(arch, &m.action())
 }
 
 /// What an action changes, over the memory of `arch` after a store.

@@ -1,15 +1,19 @@
 // The masks of the latches.
-ghost use Rattle.std.specs.Prelude.{◌≡◌, ◌↔◌, ◌<◌, ◌≤◌, IsTrue};
-ghost use Rattle.eval_mask.specs.Cases.{IsCase};
+ghost use Rattle.std.specs.Prelude.{◌≡◌, ◌↔◌, ◌+◌, ◌<◌, ◌≤◌, IsTrue};
+ghost use Rattle.eval_mask.specs.Cases.{IsCase, IsMaskBelow};
 ghost use Rattle.eval_mask.specs.LatchMasks.{HasBits, IsExecutedMasked, IsLatchMask, IsResultMasked};
+ghost use Rattle.eval_mask.specs.Unread.{is_store};
 
-use crate::cases::{Case, case_of, is_kept, is_masked, is_unmoved, same_action, same_left};
-use crate::completing::{Aftermath, executed_change, left_by, write_held};
-use crate::decoded::decoded_bits;
+use crate::cases::{
+    Case, case_of, is_kept, is_masked, is_unmoved, left_with, same_action, same_left,
+};
+use crate::completing::{Aftermath, action_change, write_held};
+use crate::decoded::{decoded_bits, whole_field, with_field};
 use bit_field::Struck;
 use need_pass::NeedTable;
 use pipe_latch::{ExMem, IdEx, MemWb};
 use rv_isa::Arch;
+use rv_table::Action;
 
 /// The logically masked bits of the latches: a bit is set exactly where flipping it leaves an outcome that agrees, for all that the
 /// run needs. Bits that no field holds, and those of fields that say where and when an instruction is, are never set.
@@ -42,22 +46,18 @@ fn executed_bit(
 {
     let mut flipped = *m;
     flipped.flip(k);
-    if same_action(&flipped.action(), &m.action()) {
+    let action = flipped.action();
+    if same_action(&action, &case.executed) {
         return !case.reads_clock;
     }
-    let below = executed_change(arch, &flipped);
+    let below = action_change(arch, &action);
     if !is_kept(case, w, d, &below) {
         return is_masked(&below, w, &flipped, d, arch, needs, case);
     }
     if case.reads_clock {
         return false;
     }
-    same_left(
-        arch,
-        needs,
-        case,
-        &left_by(arch, &case.own.first, &below, &case.doing),
-    )
+    same_left(arch, needs, case, &left_with(arch, case, &below))
 }
 
 /// Whether bit `k` of MEM/WB is masked.
@@ -88,8 +88,61 @@ fn written_bit(
     same_left(arch, needs, case, &Aftermath { first, ..case.own })
 }
 
+/// The masked bits of EX/MEM below 43, those of all its fields before the value to store.
+fn result_bits(
+    w: &MemWb,
+    m: &ExMem,
+    d: &IdEx,
+    arch: &Arch<'_>,
+    needs: &NeedTable,
+    case: &Case,
+) -> u128
+    requires within { case.now.first_after ≤ needs.now.count }
+    requires case { IsCase needs.now arch.now w.now m.now d.now case.now }
+    ensures { IsMaskBelow 43 (IsExecutedMasked needs.now arch.now (record { w = w.now; m = m.now; d = d.now }) case.now.oldest.value case.now.npc case.now.issued) result }
+{
+    let mut mask: u128 = 0;
+    for k in 0..43u32 {
+        if executed_bit(w, m, d, arch, needs, case, k) {
+            mask |= 1 << k;
+        }
+    }
+    mask
+}
+
+/// Whether an action is a store.
+fn is_store(action: &Action) -> bool
+    ensures { result ≡ is_store action.now }
+{
+    matches!(*action, Action::Stores { .. })
+}
+
+/// The masked bits of EX/MEM's value to store, which are masked whole where it is no store.
+fn stored_bits(
+    w: &MemWb,
+    m: &ExMem,
+    d: &IdEx,
+    arch: &Arch<'_>,
+    needs: &NeedTable,
+    case: &Case,
+) -> u32
+    requires within { case.now.first_after ≤ needs.now.count }
+    requires case { IsCase needs.now arch.now w.now m.now d.now case.now }
+    ensures { IsMaskBelow 32 (λ i. IsExecutedMasked needs.now arch.now (record { w = w.now; m = m.now; d = d.now }) case.now.oldest.value case.now.npc case.now.issued (43 + i)) result }
+{
+    if !is_store(&case.executed) {
+        return whole_field(case.reads_clock);
+    }
+    let mut mask: u32 = 0;
+    for k in 0..32u32 {
+        if executed_bit(w, m, d, arch, needs, case, 43 + k) {
+            mask |= 1 << k;
+        }
+    }
+    mask
+}
+
 /// The masked bits of EX/MEM.
-#[tactic(auto, using(crate::proofs::MaskLoops::mask_steps))]
 fn executed_bits(
     w: &MemWb,
     m: &ExMem,
@@ -102,13 +155,9 @@ fn executed_bits(
     requires case { IsCase needs.now arch.now w.now m.now d.now case.now }
     ensures { HasBits 128 (IsExecutedMasked needs.now arch.now (record { w = w.now; m = m.now; d = d.now }) case.now.oldest.value case.now.npc case.now.issued) result }
 {
-    let mut mask: u128 = 0;
-    for k in 0..75u32 {
-        if executed_bit(w, m, d, arch, needs, case, k) {
-            mask |= 1 << k;
-        }
-    }
-    mask
+    let result = result_bits(w, m, d, arch, needs, case);
+    let stored = stored_bits(w, m, d, arch, needs, case);
+    with_field(result, stored, 43)
 }
 
 /// The masked bits of MEM/WB.

@@ -1,6 +1,6 @@
 use Rattle.eval_mask.specs.Cases.{IsMaskBelow}
 use Rattle.eval_mask.specs.LatchMasks.{IsExecutedMasked}
-use Rattle.eval_mask.proofs.latches.executed_bits.Given as goal
+use Rattle.eval_mask.proofs.latches.result_bits.Given as goal
 
 abbrev pub invariant-loop-k : goal.invariant-loop-k
 invariant-loop-k l = IsMaskBelow l.k (IsExecutedMasked l.needs l.arch
