@@ -1,4 +1,5 @@
 pub mod Due
+pub mod DueTexts
 pub mod Fates
 pub mod Notes
 pub mod Rows

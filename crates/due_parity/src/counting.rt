@@ -111,7 +111,10 @@ fn bit_counts(a: &Analysis<'_>, row: &Watched, place: &Place) -> DueCounts
         counts = plus(counts, stretch(a, place, note.reads, from, until));
         from = until;
     }
-    plus(counts, stretch(a, place, false, from, a.recorded().cycles()))
+    plus(
+        counts,
+        stretch(a, place, false, from, a.recorded().cycles()),
+    )
 }
 
 /// The counts of a structure with parity over all its bits and all cycles of a run, by the table of the run: of the detected flips those

@@ -100,12 +100,7 @@ fn register_touch(r: u8, rd: u8, op: Option<Op>) -> Touch
 }
 
 /// Notes a touch of a group in its row.
-pub fn note(
-    rows: &mut [Watched],
-    group: usize,
-    cycle: u32,
-    touch: Touch,
-) -> Result<(), OutOfMemory>
+pub fn note(rows: &mut [Watched], group: usize, cycle: u32, touch: Touch) -> Result<(), OutOfMemory>
     requires { group < length rows.old }
     ensures { OnOk result (IsNotedIn (λ g. touch) cycle group (group + 1) rows.old rows.new) }
 {

@@ -27,8 +27,7 @@ loop-t-preserved c =
     let within : c.min-next.result ≤ c.args.until = omega (arith, next) in
     let one : same.class ≡ c.class_of.result = one_class (moment c.args.a.now c.loop-t.t) c.args.place.now same.class c.class_of.result
     (same.is c.loop-t.t (omega arith) after) c.class_of.ensures.class in
-    let added = added-most (is_ace c.class_of.result) (c.min-next.result - c.loop-t.t) c.ace_in-ace.result c.ace_in-ace.ensures in
-    (
+    let added = added-most (is_ace c.class_of.result) (c.min-next.result - c.loop-t.t) c.ace_in-ace.result c.ace_in-ace.ensures in (
       more-ace c.args.a.now c.args.place.now c.args.from c.loop-t.t c.min-next.result c.loop-t.ace c.ace_in-ace.result c.class_of.result
           c.loop-t.invariant.1 ahead
           (λ u k o. subst (λ (class : Class). IsClass class (moment c.args.a.now u) c.args.place.now) one

@@ -37,8 +37,8 @@ step-report-requires-clause-cycles g c =
 pub note_event-requires-clause-event : goal.note_event-requires-clause-event
 note_event-requires-clause-event g c =
     λ e h. rw c.shape-shape.ensures (event-inside c.args.recorded.now (rw (← c.image.ensures) c.is_image.ensures) c.is_record.ensures.record c.loop-t.t
-        (omega (arith, c.loop-t-test.true, c.cycles-t-end.ensures)) e
-        (sym (c.step-report.ensures.cycle.event ∙ ap event_in c.loop-t.invariant.0.state) ∙ h))
+    (omega (arith, c.loop-t-test.true, c.cycles-t-end.ensures)) e
+    (sym (c.step-report.ensures.cycle.event ∙ ap event_in c.loop-t.invariant.0.state) ∙ h))
 
 pub loop-t-preserved : goal.loop-t-preserved
 loop-t-preserved g c =
@@ -50,8 +50,10 @@ loop-t-preserved g c =
     (arith, c.note_event.auto.bytes, ap length c.deref_mut-in-loop-t.ensures.value, c.loop-t.bytes.ok.0) in
     let before : IsWatching c.args.recorded.now c.loop-t.t c.loop-t.machine c.deref_mut.result.now c.deref_mut-in-loop-t.result.now = rw
     (c.deref_mut.ensures.value, c.deref_mut-in-loop-t.ensures.value) c.loop-t.invariant.0 in
-    rw (take_at registers (drop (length registers) c.loop-t.registers.items) c.loop-t.registers.len file,
-    take_at bytes (drop (length bytes) c.loop-t.bytes.items) c.loop-t.bytes.len cells) (
+    rw (
+      take_at registers (drop (length registers) c.loop-t.registers.items) c.loop-t.registers.len file,
+      take_at bytes (drop (length bytes) c.loop-t.bytes.items) c.loop-t.bytes.len cells,
+    ) (
       goes-on c.args.recorded.now (rw (← c.image.ensures) c.is_image.ensures) c.is_record.ensures.record c.loop-t.t
           (omega (arith, c.loop-t-test.true, c.cycles-t-end.ensures)) c.loop-t.machine c.step-report.new.self c.deref_mut.result.now
           c.deref_mut-in-loop-t.result.now registers bytes c.in_ok-history.history c.decoding_of-decoding.result.rd c.op_taken-op.result
