@@ -14,7 +14,8 @@ use Rattle.pipe_latch.specs.declared.id_ex.IdExField.{IdExField}
 use Rattle.pipe_latch.specs.declared.id_ex.IdExField.TheVariants.{Valid, Pc, Op, Rd, Rs1, Rs2, A, B, Imm, Count}
 use Rattle.cyc_machine.specs.InFlight.{outcome}
 use Rattle.need_pass.specs.Tables.{Needs}
-use Rattle.eval_mask.specs.LatchMasks.{HasBits, IsDecodedMasked, IsExecutedMasked, IsLatchMask, IsMasked, IsResultMasked, Latches, base_of, first_after, is_on_path, reads_clock}
+use Rattle.eval_mask.specs.LatchMasks.{HasBits, IsDecodedMasked, IsExecutedMasked, IsLatchMask, IsMasked, IsResultMasked, Latches}
+use Rattle.eval_mask.specs.LatchMasks.{base_of, first_after, is_on_path, reads_clock}
 use Rattle.eval_mask.specs.declared.latches.LatchMask.{LatchMask}
 use Rattle.ace_rules.specs.Situations.{AreMasks, but_waits, unwaiting}
 use Rattle.ace_rules.specs.declared.situation.Situation.{Situation}

@@ -1,8 +1,6 @@
 // Up to which cycle the class of a bit stays, by what is kept of the run, where that is known at once.
 ghost use Rattle.std.specs.Prelude.{◌≡◌, ◌<◌, ◌*◌, ◌/◌, ◌%◌};
 ghost use Rattle.bit_field.specs.Shapes.{IsPlaceIn, IsShape, slots as slot_count, tag_bits as tag_width};
-ghost use Rattle.line_life.specs.Lives.{next_in};
-ghost use Rattle.slot_history.specs.Histories.{held_in, next_change};
 ghost use Rattle.ace_rules.specs.Stays as stays;
 ghost use Rattle.ace_rules.specs.Stays.{IsStay};
 
@@ -98,7 +96,7 @@ fn data_stays(life: &Life, slots: &SlotTable, shape: &Shape, bit: u32, cycle: u3
     requires bit { bit < slot_count shape.now * 128 }
     requires cycle { cycle < life.now.cycles }
     requires number { cycle < 4294967295 }
-    ensures { result ≡ stays.data_until (held_in slots.now (bit / 128) cycle) (next_in life.now (bit / 128) (bit % 128 / 8) cycle) (next_change slots.now (bit / 128) cycle) }
+    ensures { result ≡ stays.data_stays life.now slots.now (bit / 128) (bit % 128 / 8) cycle }
 {
     let slot = bit / 128;
     let next = next_at(life, shape, slot, bit % 128 / 8, cycle);
@@ -115,7 +113,7 @@ fn tag_stays(slots: &SlotTable, shape: &Shape, bit: u32, cycle: u32) -> u32
     requires slots { slots.now.shape ≡ shape.now }
     requires bit { bit < slot_count shape.now * tag_width shape.now }
     requires number { cycle < 4294967295 }
-    ensures { result ≡ stays.tag_until (held_in slots.now (bit / tag_width shape.now) cycle) (next_change slots.now (bit / tag_width shape.now) cycle) }
+    ensures { result ≡ stays.tag_stays slots.now (bit / tag_width shape.now) cycle }
 {
     let slot = bit / tag_bits(shape);
     tag_until(slots.held(slot, cycle), slots.next_change(slot, cycle))
@@ -125,7 +123,7 @@ fn tag_stays(slots: &SlotTable, shape: &Shape, bit: u32, cycle: u32) -> u32
 fn valid_stays(first_quiet: u32, slots: &SlotTable, slot: u32, cycle: u32) -> u32
     requires slot { slot < slot_count slots.now.shape }
     requires number { cycle < 4294967295 }
-    ensures { result ≡ stays.valid_until (held_in slots.now slot cycle) (stays.quiet_until first_quiet cycle) (next_change slots.now slot cycle) }
+    ensures { result ≡ stays.valid_stays first_quiet slots.now slot cycle }
 {
     let quiet = quiet_until(first_quiet, cycle);
     valid_until(
@@ -139,7 +137,7 @@ fn valid_stays(first_quiet: u32, slots: &SlotTable, slot: u32, cycle: u32) -> u3
 fn dirty_stays(first_quiet: u32, slots: &SlotTable, slot: u32, cycle: u32) -> u32
     requires slot { slot < slot_count slots.now.shape }
     requires number { cycle < 4294967295 }
-    ensures { result ≡ stays.dirty_until (held_in slots.now slot cycle) (stays.quiet_until first_quiet cycle) (next_change slots.now slot cycle) }
+    ensures { result ≡ stays.dirty_stays first_quiet slots.now slot cycle }
 {
     let quiet = quiet_until(first_quiet, cycle);
     dirty_until(
