@@ -14,7 +14,8 @@ use Rattle.pipe_latch.specs.declared.id_ex.IdExField.{IdExField}
 use Rattle.pipe_latch.specs.declared.id_ex.IdExField.TheVariants.{Valid, Pc, Op, Rd, Rs1, Rs2, A, B, Imm, Count}
 use Rattle.cyc_machine.specs.InFlight.{outcome}
 use Rattle.need_pass.specs.Tables.{Needs}
-use Rattle.eval_mask.specs.LatchMasks.{HasBits, IsDecodedMasked, IsExecutedMasked, IsLatchMask, IsMasked, IsResultMasked, Latches, base_of, first_after, is_on_path, reads_clock}
+use Rattle.eval_mask.specs.LatchMasks.{HasBits, IsDecodedMasked, IsExecutedMasked, IsLatchMask, IsMasked, IsResultMasked, Latches}
+use Rattle.eval_mask.specs.LatchMasks.{base_of, first_after, is_on_path, reads_clock}
 use Rattle.eval_mask.specs.declared.latches.LatchMask.{LatchMask}
 use Rattle.ace_rules.specs.Situations.{AreMasks, but_waits, unwaiting}
 use Rattle.ace_rules.specs.declared.situation.Situation.{Situation}
@@ -150,9 +151,10 @@ module _ (needs : Needs) (arch : ArchState) (w : ResultLatch) (m : ExecutedLatch
 pub same_masks : (table : Needs) (arch : ArchState) (a b : Situation) (masks : LatchMask) → but_waits a ≡ but_waits b
     → AreMasks table arch a masks → AreMasks table arch b masks
 same_masks table arch a b masks e h =
-    let w : a.w ≡ b.w = ap (λ (s : Situation). s.w) e in
-    let m : a.m ≡ b.m = ap (λ (s : Situation). s.m) e in
+    let w : a.mem_wb ≡ b.mem_wb = ap (λ (s : Situation). s.mem_wb) e in
+    let m : a.ex_mem ≡ b.ex_mem = ap (λ (s : Situation). s.ex_mem) e in
     let old : a.old ≡ b.old = ap (λ (s : Situation). s.old) e in
     let npc : a.npc ≡ b.npc = ap (λ (s : Situation). s.npc) e in
     let x : a.executed ≡ b.executed = ap (λ (s : Situation). s.executed) e in
-    masks-same table arch b.w b.m b.old b.npc b.executed a.d b.d (ap (λ (s : Situation). s.d) e) masks (rw (← w, ← m, ← old, ← npc, ← x) h)
+    masks-same table arch b.mem_wb b.ex_mem b.old b.npc b.executed a.id_ex b.id_ex (ap (λ (s : Situation). s.id_ex) e) masks
+    (rw (← w, ← m, ← old, ← npc, ← x) h)

@@ -45,7 +45,8 @@ quiet-same : (quiet from t : ℕ) → from < t → t < quiet_until quiet from �
 unfolding quiet_until
 quiet-same quiet from t l below = go (nat_le quiet from) refl (nat_le quiet t) refl below
   where
-    go : (a : Bool) → nat_le quiet from ≡ a → (b : Bool) → nat_le quiet t ≡ b → t < (if a then no_cycle else quiet) → nat_le quiet from ≡ nat_le quiet t
+    go : (a : Bool) → nat_le quiet from ≡ a → (b : Bool) → nat_le quiet t ≡ b → t < (if a then no_cycle else quiet)
+        → nat_le quiet from ≡ nat_le quiet t
     go true p true q below = p ∙ sym q
     go false p false q below = p ∙ sym q
     go true p false q below =
@@ -72,7 +73,8 @@ module _ (story : Story) (table : Needs) (notes : List Note) (words : List ℕ) 
   timing-stays s k of class t later below within h =
       carried (moment story from) (moment story t) (record { structure = s; bit = k }) (class_by (timing_tests (nat_le quiet from)))
       (class_by (timing_tests (nat_le quiet t))) class
-      (timing_class (moment story from) (nat_le quiet from) s k (quiet-by story table notes words quiet life tags slots kept story.r refl from running) of)
+      (timing_class (moment story from) (nat_le quiet from) s k
+      (quiet-by story table notes words quiet life tags slots kept story.r refl from running) of)
       (timing_class (moment story t) (nat_le quiet t) s k (quiet-by story table notes words quiet life tags slots kept story.r refl t within) of)
       (ap (λ (q : Bool). class_by (timing_tests q)) (quiet-same quiet from t later below)) h
 
@@ -139,7 +141,8 @@ module _ (story : Story) (table : Needs) (notes : List Note) (words : List ℕ) 
       (known story table notes words quiet life tags slots kept story.r refl from note running at) story.r.shape tags slots from at_from k in_cache)
       (tag-class-at (moment story t) table other (nat_le quiet t)
       (known story table notes words quiet life tags slots kept story.r refl t other within there) story.r.shape tags slots t at_t k in_cache)
-      (tag-same (k / tag_bits story.r.shape) (k % tag_bits story.r.shape) t later note other (held_in slots (k / tag_bits story.r.shape) from) refl below)
+      (tag-same (k / tag_bits story.r.shape) (k % tag_bits story.r.shape) t later note other
+      (held_in slots (k / tag_bits story.r.shape) from) refl below)
       h
 
   valid-same : (l t : ℕ) → from < t → (note other : Note) → (held : Held) → held_in slots l from ≡ held
@@ -209,7 +212,8 @@ module _ (story : Story) (table : Needs) (notes : List Note) (words : List ℕ) 
   npc-at p until e = at-place p Npc until e (npc-stays p.bit until)
 
   pub data-at : (p : Place) (until : ℕ) → p.structure ≡ CData → IsPlaceIn story.r.shape p
-      → until ≡ data_until (held_in slots (p.bit / 128) from) (next_in life (p.bit / 128) (p.bit % 128 / 8) from) (next_change slots (p.bit / 128) from)
+      → until ≡ data_until (held_in slots (p.bit / 128) from)
+      (next_in life (p.bit / 128) (p.bit % 128 / 8) from) (next_change slots (p.bit / 128) from)
       → Stays story p from until
   data-at p until e in_shape is =
       let bit = bit-in p CData e in_shape in

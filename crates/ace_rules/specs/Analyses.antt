@@ -1,13 +1,17 @@
 -- What is kept of a run for the classes of its bits.
 use Rattle.std.specs.Prelude.{◌≡◌, ◌≤◌, ◌<◌, ℕ, List}
+use Rattle.bit_field.specs.Shapes.{IsPlaceIn}
 use Rattle.bit_field.specs.declared.places.Place.{Place}
 use Rattle.ace_class.specs.declared.class.Class.{Class}
+use Rattle.ace_class.specs.declared.class.Class.TheVariants.{UnAce}
+use Rattle.ace_class.specs.declared.class.Rule.{Rule}
 use Rattle.need_pass.specs.Tables.{Needs}
 use Rattle.line_life.specs.Lives.{IsLifeOf, Lives}
 use Rattle.tag_dist.specs.Tables.{IsTableOf, Tables}
 use Rattle.slot_history.specs.HeldBefore.{IsSlotTable}
 use Rattle.slot_history.specs.Histories.{Histories}
 use Rattle.run_record.specs.Run.{RecordedRun}
+use Rattle.run_record.specs.Verdict.{HasSame, flipped}
 use Rattle.ace_law.specs.Classes.{IsClass}
 use Rattle.ace_law.specs.Moments.{IsTold}
 use Rattle.ace_rules.specs.Notes.{AreNotes, Story, moment}
@@ -34,3 +38,9 @@ pub record IsSomeAnalysis (r : RecordedRun) (table : Needs) (notes : List Note) 
 pub record HasOneClass (story : Story) (place : Place) (from until : ℕ) : Type 0 where
   pub class : Class
   pub is : (t : ℕ) → from ≤ t → t < until → IsClass class (moment story t) place
+
+-- what is un-ACE is harmless: with the bit flipped the run has the recorded output and end
+abbrev pub UnAceIsHarmlessIn : Story → Type 0
+UnAceIsHarmlessIn story =
+    (place : Place) (cycle : ℕ) (rule : Rule) → IsPlaceIn story.r.shape place → cycle < story.r.cycles
+    → IsClass (UnAce rule) (moment story cycle) place → HasSame story.r cycle (flipped story.r cycle place)

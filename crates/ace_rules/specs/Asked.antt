@@ -128,7 +128,8 @@ is_harmless_in image needs note i redirected word =
 
 unfoldable pub is_harmless : LoadedImage → Needs → Note → ℕ → Pending → Bool
 is_harmless image needs note i redirected =
-    is_harmless_in image needs note i redirected (slot_of note.stores i).addr && is_harmless_in image needs note i redirected redirected.addr
+    is_harmless_in image needs note i redirected (slot_of note.stores i).addr
+    && is_harmless_in image needs note i redirected redirected.addr
 
 -- bit b of a store, in a field that says where it writes
 unfoldable pub is_redirected : LoadedImage → Needs → Note → ℕ → PendingField → ℕ → Bool

@@ -1,5 +1,6 @@
 -- What the code asks of a note and of the masks of words, for bits of the instruction buffer. No clause of a public call speaks of it.
-use Rattle.std.specs.Prelude.{ℕ, ◌+◌, ◌==◌, Bool, true, false, not, ◌&&◌, ◌||◌, nat_le, nat_lt, List, Option, Some, None, slice_get, if◌then◌else◌}
+use Rattle.std.specs.Prelude.{ℕ, ◌+◌, ◌==◌, Bool, true, false, not, ◌&&◌, ◌||◌, nat_le, nat_lt}
+use Rattle.std.specs.Prelude.{List, Option, Some, None, slice_get, if◌then◌else◌}
 use Rattle.std.specs.Int.{bit_at}
 use Rattle.inst_buf.specs.declared.slots.SlotField.{SlotField}
 use Rattle.inst_buf.specs.declared.slots.SlotField.TheVariants.{Valid, Pc, Word}

@@ -3,8 +3,9 @@ use Rattle.std.specs.Prelude.{false, if◌then◌else◌, Decides}
 use Rattle.bit_field.specs.declared.places.Place.{Place}
 use Rattle.ace_class.specs.declared.class.Class.{Class}
 use Rattle.ace_class.specs.declared.class.Class.TheVariants.{Ace, UnAce}
-use Rattle.ace_class.specs.declared.class.Rule.TheVariants.{Timing, EmptyPlace, WrongPath, OnPath, Masked, DeadRegister, DeadData, StoreRedirection}
-use Rattle.ace_class.specs.declared.class.Rule.TheVariants.{CleanData, CleanLine, UnaccessedLine, CleanTag, NoTrapCause}
+use Rattle.ace_class.specs.declared.class.Rule.TheVariants.{Timing, EmptyPlace, WrongPath, OnPath, Masked, DeadRegister}
+use Rattle.ace_class.specs.declared.class.Rule.TheVariants.{DeadData, StoreRedirection, CleanData, CleanLine, UnaccessedLine}
+use Rattle.ace_class.specs.declared.class.Rule.TheVariants.{CleanTag, NoTrapCause}
 use Rattle.ace_law.specs.Classes.{Holds}
 use Rattle.ace_law.specs.Moments.{Moment}
 use Rattle.ace_rules.specs.declared.first_rule.RuleTests.{RuleTests}

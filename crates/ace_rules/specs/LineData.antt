@@ -20,7 +20,8 @@ use Rattle.ace_rules.specs.Asked.{is_dead}
 use Rattle.ace_rules.specs.Notes.{IsNote, Story, moment}
 use Rattle.ace_rules.specs.declared.note.Note.{Note}
 
--- The tables are those of the run: a note of each cycle, the first quiet cycle, what next concerns each byte, and what each line slot holds.
+-- The tables are those of the run: a note of each cycle, the first quiet cycle, what next concerns each byte, and what each line slot
+-- holds.
 pub record AreDataTables (story : Story) (table : Needs) (notes : List Note) (quiet : ℕ) (cache : Shape) (lives : Lives)
     (lines : Histories) : Type 0 where
   pub told : IsTold story.r story.run table
@@ -31,7 +32,8 @@ pub record AreDataTables (story : Story) (table : Needs) (notes : List Note) (qu
   pub life : IsLifeOf story.r.events story.r.shape story.r.cycles lives
   pub slots : IsSlotTable story.r.events story.r.shape lines
 
-pub record AreSomeDataTables (table : Needs) (notes : List Note) (quiet : ℕ) (cache : Shape) (lives : Lives) (lines : Histories) : Type 0 where
+pub record AreSomeDataTables (table : Needs) (notes : List Note) (quiet : ℕ) (cache : Shape) (lives : Lives)
+    (lines : Histories) : Type 0 where
   pub story : Story
   pub tables : AreDataTables story table notes quiet cache lives lines
 

@@ -1,6 +1,8 @@
 -- What is kept of each cycle and each instruction of a run, and what it means.
-use Rattle.std.specs.Prelude.{Bool, ◌≡◌, ◌≤◌, ◌<◌, ◌↔◌, ◌+◌, ◌-◌, ◌^◌, ◌==◌, ℕ, true, List, [], length, Option, Some, None, option_map, is_none, slice_get, if◌then◌else◌}
-use Rattle.elf_load.specs.Image.{fetch}
+use Rattle.std.specs.Prelude.{Bool, ◌≡◌, ◌≤◌, ◌<◌, ◌↔◌, ◌+◌, ◌-◌, ◌^◌, ◌==◌, ℕ, true, List, [], length}
+use Rattle.std.specs.Prelude.{Option, Some, None, option_map, is_none, slice_get, if◌then◌else◌}
+use Rattle.bit_field.specs.declared.places.Structure.{Structure}
+use Rattle.elf_load.specs.Image.{LoadedImage, fetch}
 use Rattle.rv_isa.specs.Architecture.{ArchState, state_of}
 use Rattle.rv_isa.specs.Instruction.{State as Arch}
 use Rattle.rv_isa.specs.Runs.{ProgramTrace}
@@ -17,6 +19,8 @@ use Rattle.eval_mask.specs.WordMasks.{IsWordMask}
 use Rattle.eval_mask.specs.declared.latches.LatchMask.{LatchMask}
 use Rattle.flush_view.specs.Flush.{path}
 use Rattle.run_record.specs.Run.{RecordedRun}
+use Rattle.ace_class.specs.declared.class.Class.{Class}
+use Rattle.ace_law.specs.Classes.{IsClass}
 use Rattle.ace_law.specs.Moments.{IsQuiet, IsTold, Moment, decoded_is_on_path, entries_on_path, executed, retired, state, trace}
 use Rattle.ace_rules.specs.declared.note.Note.{Note}
 
@@ -93,3 +97,18 @@ pub record IsKnown (a : Moment) (table : Needs) (note : Note) (quiet : Bool) : T
 pub record IsSomeMoment (table : Needs) (note : Note) (quiet : Bool) : Type 0 where
   pub a : Moment
   pub known : IsKnown a table note quiet
+
+-- this is the class of bit k of a structure, whatever moment the note is of
+abbrev pub IsNotedClass : Class → Note → Bool → Structure → ℕ → Type 0
+IsNotedClass class note quiet s k =
+    (a : Moment) (needs : Needs) → IsKnown a needs note quiet → IsClass class a (record { structure = s; bit = k })
+
+-- the same where these are the masks of the run's words, and where the needs and the image are those of the run
+abbrev pub IsFetchedClass : Class → Note → List ℕ → Bool → Structure → ℕ → Type 0
+IsFetchedClass class note words quiet s k =
+    (a : Moment) (needs : Needs) → IsKnown a needs note quiet → AreWordMasks a needs words
+    → IsClass class a (record { structure = s; bit = k })
+
+abbrev pub IsPendingClass : Class → Needs → LoadedImage → Note → Bool → Structure → ℕ → Type 0
+IsPendingClass class needs image note quiet s k =
+    (a : Moment) → IsKnown a needs note quiet → image ≡ a.r.image → IsClass class a (record { structure = s; bit = k })

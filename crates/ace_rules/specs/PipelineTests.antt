@@ -1,5 +1,6 @@
 -- What the code asks of a note and of the needs, for bits of the pipeline and of registers. No clause of a public call speaks of it.
-use Rattle.std.specs.Prelude.{ℕ, ⊤, ◌+◌, ◌-◌, ◌/◌, ◌%◌, ◌==◌, Bool, true, false, not, ◌&&◌, ◌||◌, nat_lt, Option, Some, None, if◌then◌else◌}
+use Rattle.std.specs.Prelude.{◌≡◌, ◌↔◌, ℕ, ⊤, ◌+◌, ◌-◌, ◌/◌, ◌%◌, ◌==◌, Bool, true, false, not, ◌&&◌, ◌||◌, nat_lt}
+use Rattle.std.specs.Prelude.{Option, Some, None, if◌then◌else◌}
 use Rattle.std.specs.Int.{bit_at}
 use Rattle.bit_field.specs.declared.places.Structure.{Structure}
 use Rattle.bit_field.specs.declared.places.Structure.TheVariants.{Pc, Bht, Btb, Port, CLru}
@@ -11,6 +12,9 @@ use Rattle.pipe_latch.specs.declared.ex_mem.ExMemField.TheVariants as of_execute
 use Rattle.pipe_latch.specs.declared.mem_wb.MemWbField.{MemWbField}
 use Rattle.pipe_latch.specs.declared.mem_wb.MemWbField.TheVariants as of_result
 use Rattle.need_pass.specs.Tables.{Needs, reg_need}
+use Rattle.ace_class.specs.declared.class.Class.{Class}
+use Rattle.ace_law.specs.Classes.{IsClass}
+use Rattle.ace_law.specs.Moments.{IsQuiet, Moment}
 use Rattle.ace_rules.specs.declared.note.Note.{Note}
 use Rattle.ace_rules.specs.declared.first_rule.RuleTests.{RuleTests}
 use Rattle.ace_rules.specs.FirstRules.{no_rule}
@@ -42,6 +46,11 @@ IsOfTiming Btb = ⊤
 IsOfTiming Port = ⊤
 IsOfTiming CLru = ⊤
 IsOfTiming _ = ⊥
+
+-- this is the class of each bit of each of them in a moment, by whether it is quiet
+abbrev pub IsTimingClass : Class → Bool → Type 0
+IsTimingClass class quiet =
+    (a : Moment) (s : Structure) (k : ℕ) → ((quiet ≡ true) ↔ IsQuiet a) → IsOfTiming s → IsClass class a (record { structure = s; bit = k })
 
 unfoldable pub timing_tests : Bool → RuleTests
 timing_tests quiet = record no_rule { timing = quiet }

@@ -12,10 +12,10 @@ use Rattle.ace_rules.specs.declared.situation.MaskedLatches.{MaskedLatches}
 
 -- the situation in a state of the machine in which x instructions have left EX
 abbrev pub situation_of : State → ℕ → Situation
-situation_of s x = record { w = s.w; m = s.m; d = s.d; old = register s.registers s.w.rd; npc = s.npc; executed = x }
+situation_of s x = record { mem_wb = s.w; ex_mem = s.m; id_ex = s.d; old = register s.registers s.w.rd; npc = s.npc; executed = x }
 
 abbrev pub latches_in : Situation → Latches
-latches_in s = record { w = s.w; m = s.m; d = s.d }
+latches_in s = record { w = s.mem_wb; m = s.ex_mem; d = s.id_ex }
 
 -- its masks over an instruction set's state
 abbrev pub AreMasks : Needs → ArchState → Situation → LatchMask → Type 0
@@ -26,7 +26,7 @@ abbrev pub unwaiting : DecodedLatch → DecodedLatch
 unwaiting d = record d { count = 0 }
 
 abbrev pub but_waits : Situation → Situation
-but_waits s = record s { d = unwaiting s.d }
+but_waits s = record s { id_ex = unwaiting s.id_ex }
 
 -- the masks that are kept of the cycle before, if they are, hold over the instruction set's state
 abbrev pub AreKept : Needs → ArchState → Option MaskedLatches → Type 0

@@ -3,10 +3,10 @@ use Rattle.std.specs.Prelude.{◌≡◌, ℕ, ◌+◌, ◌<◌, min, nat_le, Lis
 use Rattle.bit_field.specs.declared.places.Place.{Place}
 use Rattle.event_log.specs.declared.next.Next.{Next}
 use Rattle.event_log.specs.declared.next.Next.TheVariants.{Read, Overwritten, Beside, Evicted, Ends}
-use Rattle.line_life.specs.Lives.{Lives}
+use Rattle.line_life.specs.Lives.{Lives, next_in}
 use Rattle.need_pass.specs.Tables.{Needs}
 use Rattle.run_record.specs.Run.{RecordedRun}
-use Rattle.slot_history.specs.Histories.{Histories}
+use Rattle.slot_history.specs.Histories.{Histories, held_in, next_change}
 use Rattle.slot_history.specs.declared.changes.Held.{Held}
 use Rattle.slot_history.specs.declared.changes.Held.TheVariants.{Vacant, Clean, Dirty}
 use Rattle.tag_dist.specs.Tables.{Tables}
@@ -57,17 +57,29 @@ data_until Vacant next change = change
 data_until (Clean line) next change = min change (after next)
 data_until (Dirty line) next change = 0
 
+abbrev pub data_stays : Lives → Histories → ℕ → ℕ → ℕ → ℕ
+data_stays life slots l byte t = data_until (held_in slots l t) (next_in life l byte t) (next_change slots l t)
+
 unfoldable pub tag_until : Held → ℕ → ℕ
 tag_until Vacant change = change
 tag_until (Clean line) change = 0
 tag_until (Dirty line) change = 0
+
+abbrev pub tag_stays : Histories → ℕ → ℕ → ℕ
+tag_stays slots l t = tag_until (held_in slots l t) (next_change slots l t)
 
 unfoldable pub valid_until : Held → ℕ → ℕ → ℕ
 valid_until Vacant quiet change = 0
 valid_until (Clean line) quiet change = min change quiet
 valid_until (Dirty line) quiet change = 0
 
+abbrev pub valid_stays : ℕ → Histories → ℕ → ℕ → ℕ
+valid_stays quiet slots l t = valid_until (held_in slots l t) (quiet_until quiet t) (next_change slots l t)
+
 unfoldable pub dirty_until : Held → ℕ → ℕ → ℕ
 dirty_until Vacant quiet change = change
 dirty_until (Clean line) quiet change = min change quiet
 dirty_until (Dirty line) quiet change = 0
+
+abbrev pub dirty_stays : ℕ → Histories → ℕ → ℕ → ℕ
+dirty_stays quiet slots l t = dirty_until (held_in slots l t) (quiet_until quiet t) (next_change slots l t)

@@ -17,6 +17,7 @@ use Rattle.cyc_machine.specs.Cycle.{action_in_m}
 use Rattle.cyc_machine.specs.State.{State}
 use Rattle.need_pass.specs.Tables.{Needs}
 use Rattle.eval_mask.specs.WordMasks.{IsWordMask}
+use Rattle.eval_mask.specs.declared.latches.LatchMask.{LatchMask}
 use Rattle.run_record.specs.Run.{RecordedRun}
 use Rattle.rv_isa.specs.Runs.{ProgramTrace}
 use Rattle.ace_rules.specs.Notes.{Story}
@@ -66,6 +67,11 @@ pub record IsNoteOf (s : State) (arch : ArchState) (run : List Retired) (table :
   pub missed : note.missed ≡ slice_get (path_addresses s.d (waiting_in s.buffer)) (on_path_in s run x)
   pub stores : note.stores ≡ s.stores
   pub masks : AreMasks table arch (situation_of s x) note.masks
+
+-- the same, whatever the needs and the instruction set's state are whose masks of the latches these are
+abbrev pub IsNoteWith : State → List Retired → ℕ → LatchMask → Note → Type 0
+IsNoteWith s run x masks note =
+    (table : Needs) (arch : ArchState) → AreMasks table arch (situation_of s x) masks → IsNoteOf s arch run table x note
 
 -- the mask of the word at a state's address, as instruction i
 pub record IsMaskAt (table : Needs) (i : ℕ) (arch : ArchState) (mask : ℕ) : Type 0 where

@@ -23,12 +23,13 @@ fn note_at(notes: &[Note], cycle: u32) -> &Note
 }
 
 impl Analysis<'_> {
-    ghost use Rattle.std.specs.Prelude.{◌≡◌, ◌<◌, ℕ};
+    ghost use Rattle.std.specs.Prelude.{◌≡◌, ◌<◌};
     ghost use Rattle.bit_field.specs.Shapes.{IsPlaceIn};
     ghost use Rattle.ace_class.specs.declared.class.Class.TheVariants.{UnAce};
     ghost use Rattle.ace_class.specs.declared.class.Rule.{Rule};
     ghost use Rattle.run_record.specs.Verdict.{HasSame, flipped};
     ghost use Rattle.ace_law.specs.Classes.{IsClass};
+    ghost use Rattle.ace_rules.specs.Analyses.{UnAceIsHarmlessIn};
     ghost use Rattle.ace_rules.specs.Notes.{moment};
 
     /// The class of a bit in a cycle, by what is kept of the run.
@@ -73,7 +74,7 @@ impl Analysis<'_> {
     /// Changes nothing; its contract says that un-ACE is harmless: the run with that bit flipped before that cycle has the recorded output
     /// and end, within the bound.
     pub fn is_harmless(&self)
-        ensures { (place : Place) (cycle : ℕ) (rule : Rule) → IsPlaceIn self.now.r.shape place → cycle < self.now.r.cycles → IsClass (UnAce rule) (moment self.now cycle) place → HasSame self.now.r cycle (flipped self.now.r cycle place) }
+        ensures { UnAceIsHarmlessIn self.now }
     {
         un_ace_law();
         let _quiet = self.quiet;

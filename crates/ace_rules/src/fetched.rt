@@ -3,10 +3,7 @@ ghost use Rattle.std.specs.Prelude.{◌≡◌, ◌<◌, ◌-◌, ◌^◌};
 ghost use Rattle.bit_field.specs.declared.places.Structure.TheVariants.{Ib};
 ghost use Rattle.bit_field.specs.declared.shapes.TheConstants.{IB_BITS};
 ghost use Rattle.inst_buf.specs.declared.buffer.TheConstants.{SLOTS};
-ghost use Rattle.need_pass.specs.Tables.{Needs};
-ghost use Rattle.ace_law.specs.Classes.{IsClass};
-ghost use Rattle.ace_law.specs.Moments.{Moment};
-ghost use Rattle.ace_rules.specs.Notes.{AreWordMasks, IsKnown};
+ghost use Rattle.ace_rules.specs.Notes.{IsFetchedClass};
 ghost use Rattle.ace_rules.specs.FetchedTests as asked;
 
 use crate::first_rule::{RuleTests, first_rule, no_rule};
@@ -143,7 +140,7 @@ fn fetched_tests(
 /// The class of a bit of the instruction buffer. `words` are the masks of the words of the run's instructions.
 pub(crate) fn fetched_class(note: &Note, words: &[u32], quiet: bool, bit: u32) -> Class
     requires { bit < IB_BITS }
-    ensures { (a : Moment) (needs : Needs) → IsKnown a needs note.now quiet → AreWordMasks a needs words.now → IsClass result a (record { structure = Ib; bit = bit }) }
+    ensures { IsFetchedClass result note.now words.now quiet Ib bit }
 {
     let (field, place) = Slot::field_at(bit % SLOT_BITS);
     first_rule(fetched_tests(note, words, quiet, bit / SLOT_BITS, field, place))

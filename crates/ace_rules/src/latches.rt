@@ -3,10 +3,7 @@ ghost use Rattle.std.specs.Prelude.{◌≡◌, ◌<◌, ◌==◌};
 ghost use Rattle.std.specs.Int.{bit_at};
 ghost use Rattle.bit_field.specs.declared.places.Structure.TheVariants as structure;
 ghost use Rattle.bit_field.specs.declared.shapes.TheConstants.{EX_MEM_BITS, ID_EX_BITS, MEM_WB_BITS};
-ghost use Rattle.need_pass.specs.Tables.{Needs};
-ghost use Rattle.ace_law.specs.Classes.{IsClass};
-ghost use Rattle.ace_law.specs.Moments.{Moment};
-ghost use Rattle.ace_rules.specs.Notes.{IsKnown};
+ghost use Rattle.ace_rules.specs.Notes.{IsNotedClass};
 ghost use Rattle.ace_rules.specs.PipelineTests as asked;
 
 use crate::first_rule::{RuleTests, first_rule, no_rule};
@@ -42,7 +39,7 @@ fn result_tests(note: &Note, quiet: bool, bit: u32, field: MemWbField) -> RuleTe
 /// The class of a bit of MEM/WB.
 pub(crate) fn result_class(note: &Note, quiet: bool, bit: u32) -> Class
     requires { bit < MEM_WB_BITS }
-    ensures { (a : Moment) (needs : Needs) → IsKnown a needs note.now quiet → IsClass result a (record { structure = structure.MemWb; bit = bit }) }
+    ensures { IsNotedClass result note.now quiet structure.MemWb bit }
 {
     let (field, _) = MemWb::field_at(bit);
     first_rule(result_tests(note, quiet, bit, field))
@@ -67,7 +64,7 @@ fn executed_tests(note: &Note, quiet: bool, bit: u32, field: ExMemField) -> Rule
 /// The class of a bit of EX/MEM.
 pub(crate) fn executed_class(note: &Note, quiet: bool, bit: u32) -> Class
     requires { bit < EX_MEM_BITS }
-    ensures { (a : Moment) (needs : Needs) → IsKnown a needs note.now quiet → IsClass result a (record { structure = structure.ExMem; bit = bit }) }
+    ensures { IsNotedClass result note.now quiet structure.ExMem bit }
 {
     let (field, _) = ExMem::field_at(bit);
     first_rule(executed_tests(note, quiet, bit, field))
@@ -141,7 +138,7 @@ fn decoded_tests(note: &Note, quiet: bool, bit: u32, field: IdExField, place: u3
 /// The class of a bit of ID/EX.
 pub(crate) fn decoded_class(note: &Note, quiet: bool, bit: u32) -> Class
     requires { bit < ID_EX_BITS }
-    ensures { (a : Moment) (needs : Needs) → IsKnown a needs note.now quiet → IsClass result a (record { structure = structure.IdEx; bit = bit }) }
+    ensures { IsNotedClass result note.now quiet structure.IdEx bit }
 {
     let (field, place) = IdEx::field_at(bit);
     first_rule(decoded_tests(note, quiet, bit, field, place))

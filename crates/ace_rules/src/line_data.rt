@@ -7,6 +7,7 @@ ghost use Rattle.line_life.specs.Lives.{next_in};
 ghost use Rattle.ace_rules.specs.Asked as asked;
 ghost use Rattle.ace_rules.specs.LineData as line_data;
 ghost use Rattle.ace_rules.specs.LineData.{AreSomeDataTables, IsDataClass};
+ghost use Rattle.ace_rules.specs.Stays.{no_cycle};
 ghost use Rattle.ace_rules.specs.declared.note.Note.{Note as CycleNote};
 
 use crate::note::Note;
@@ -79,7 +80,7 @@ fn is_unread(
     requires lines { (t : ℕ) → t < length notes.now → asked.IsLineHeld (held_in slots.now slot t) }
     requires offset { offset < 16 }
     requires bit { bit < 8 }
-    requires next { line_data.IsNextBelow 4294967295 next }
+    requires next { line_data.IsNextBelow no_cycle next }
     ensures { result ≡ line_data.is_unread needs.now notes.now quiet slots.now slot offset bit next }
 {
     match next {
@@ -123,7 +124,7 @@ fn class_of(
     requires lines { (t : ℕ) → t < length notes.now → asked.IsLineHeld (held_in slots.now slot t) }
     requires offset { offset < 16 }
     requires bit { bit < 8 }
-    requires next { line_data.IsNextBelow 4294967295 next }
+    requires next { line_data.IsNextBelow no_cycle next }
     ensures { result ≡ line_data.data_class_in needs.now notes.now quiet slots.now cycle slot offset bit held next }
 {
     match held {

@@ -5,10 +5,8 @@ ghost use Rattle.bit_field.specs.declared.shapes.TheConstants.{SB_BITS};
 ghost use Rattle.store_buf.specs.declared.buffer.TheConstants.{SLOTS};
 ghost use Rattle.store_buf.specs.declared.pending.TheConstants.{PENDING_BITS};
 ghost use Rattle.store_buf.specs.Pending.{slot_of};
-ghost use Rattle.ace_law.specs.Classes.{IsClass};
 ghost use Rattle.ace_law.specs.MemoryRules as rules;
-ghost use Rattle.ace_law.specs.Moments.{Moment};
-ghost use Rattle.ace_rules.specs.Notes.{IsKnown, IsSomeMoment};
+ghost use Rattle.ace_rules.specs.Notes.{IsPendingClass, IsSomeMoment};
 ghost use Rattle.ace_rules.specs.Asked as asked;
 
 use crate::later::{is_needed, is_unneeded};
@@ -228,7 +226,7 @@ pub(crate) fn pending_class(
 ) -> Class
     requires bit { bit < SB_BITS }
     requires some { IsSomeMoment needs.now note.now quiet }
-    ensures { (a : Moment) → IsKnown a needs.now note.now quiet → image.now ≡ a.r.image → IsClass result a (record { structure = Sb; bit = bit }) }
+    ensures { IsPendingClass result needs.now image.now note.now quiet Sb bit }
 {
     let slot = bit / PENDING_BITS;
     let (field, place) = field_at(&PENDING_FIELDS, bit % PENDING_BITS);

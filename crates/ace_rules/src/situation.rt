@@ -13,10 +13,10 @@ use rv_isa::Arch;
 /// What the masks of the latches depend on, but for the needs of the run and the instruction set's state.
 #[derive(Clone, Copy)]
 pub struct Situation {
-    /// The latches MEM/WB, EX/MEM and ID/EX.
-    pub w: MemWb,
-    pub m: ExMem,
-    pub d: IdEx,
+    /// The three latches.
+    pub mem_wb: MemWb,
+    pub ex_mem: ExMem,
+    pub id_ex: IdEx,
     /// What the register file holds in the register that MEM/WB writes, 0 for register 0.
     pub old: u32,
     /// The word address of the instruction that comes next.
@@ -48,9 +48,9 @@ fn situation_of(machine: &Machine<'_>, executed: u32) -> Situation
     ensures { result ≡ situations.situation_of machine.now executed }
 {
     Situation {
-        w: *machine.mem_wb(),
-        m: *machine.ex_mem(),
-        d: *machine.id_ex(),
+        mem_wb: *machine.mem_wb(),
+        ex_mem: *machine.ex_mem(),
+        id_ex: *machine.id_ex(),
         old: old_result(machine),
         npc: machine.npc(),
         executed,
@@ -75,9 +75,9 @@ fn same_situation(a: &Situation, b: &Situation) -> bool
     a.executed == b.executed
         && a.npc == b.npc
         && a.old == b.old
-        && a.w == b.w
-        && a.m == b.m
-        && same_decoded(&a.d, &b.d)
+        && a.mem_wb == b.mem_wb
+        && a.ex_mem == b.ex_mem
+        && same_decoded(&a.id_ex, &b.id_ex)
 }
 
 /// The masks of a situation, worked out.
@@ -86,10 +86,10 @@ fn worked_out(situation: &Situation, arch: &Arch<'_>, needs: &NeedTable) -> Latc
     ensures { AreMasks needs.now arch.now situation.now result }
 {
     latch_bits(
-        &situation.w,
+        &situation.mem_wb,
         situation.old,
-        &situation.m,
-        &situation.d,
+        &situation.ex_mem,
+        &situation.id_ex,
         situation.npc,
         arch,
         needs,

@@ -1,10 +1,8 @@
 // Up to which cycle the class of a bit stays, by what is kept of the run, where that is known at once.
 ghost use Rattle.std.specs.Prelude.{◌≡◌, ◌<◌, ◌*◌, ◌/◌, ◌%◌};
 ghost use Rattle.bit_field.specs.Shapes.{IsPlaceIn, IsShape, slots as slot_count, tag_bits as tag_width};
-ghost use Rattle.line_life.specs.Lives.{next_in};
-ghost use Rattle.slot_history.specs.Histories.{held_in, next_change};
 ghost use Rattle.ace_rules.specs.Stays as stays;
-ghost use Rattle.ace_rules.specs.Stays.{IsStay};
+ghost use Rattle.ace_rules.specs.Stays.{IsStay, no_cycle};
 
 use crate::line_data::next_at;
 use bit_field::{Place, Shape, Structure, tag_bits};
@@ -97,8 +95,8 @@ fn data_stays(life: &Life, slots: &SlotTable, shape: &Shape, bit: u32, cycle: u3
     requires slots { slots.now.shape ≡ shape.now }
     requires bit { bit < slot_count shape.now * 128 }
     requires cycle { cycle < life.now.cycles }
-    requires number { cycle < 4294967295 }
-    ensures { result ≡ stays.data_until (held_in slots.now (bit / 128) cycle) (next_in life.now (bit / 128) (bit % 128 / 8) cycle) (next_change slots.now (bit / 128) cycle) }
+    requires number { cycle < no_cycle }
+    ensures { result ≡ stays.data_stays life.now slots.now (bit / 128) (bit % 128 / 8) cycle }
 {
     let slot = bit / 128;
     let next = next_at(life, shape, slot, bit % 128 / 8, cycle);
@@ -114,8 +112,8 @@ fn tag_stays(slots: &SlotTable, shape: &Shape, bit: u32, cycle: u32) -> u32
     requires shape { IsShape shape.now }
     requires slots { slots.now.shape ≡ shape.now }
     requires bit { bit < slot_count shape.now * tag_width shape.now }
-    requires number { cycle < 4294967295 }
-    ensures { result ≡ stays.tag_until (held_in slots.now (bit / tag_width shape.now) cycle) (next_change slots.now (bit / tag_width shape.now) cycle) }
+    requires number { cycle < no_cycle }
+    ensures { result ≡ stays.tag_stays slots.now (bit / tag_width shape.now) cycle }
 {
     let slot = bit / tag_bits(shape);
     tag_until(slots.held(slot, cycle), slots.next_change(slot, cycle))
@@ -124,8 +122,8 @@ fn tag_stays(slots: &SlotTable, shape: &Shape, bit: u32, cycle: u32) -> u32
 /// Up to which cycle the class of a line slot's valid bit stays.
 fn valid_stays(first_quiet: u32, slots: &SlotTable, slot: u32, cycle: u32) -> u32
     requires slot { slot < slot_count slots.now.shape }
-    requires number { cycle < 4294967295 }
-    ensures { result ≡ stays.valid_until (held_in slots.now slot cycle) (stays.quiet_until first_quiet cycle) (next_change slots.now slot cycle) }
+    requires number { cycle < no_cycle }
+    ensures { result ≡ stays.valid_stays first_quiet slots.now slot cycle }
 {
     let quiet = quiet_until(first_quiet, cycle);
     valid_until(
@@ -138,8 +136,8 @@ fn valid_stays(first_quiet: u32, slots: &SlotTable, slot: u32, cycle: u32) -> u3
 /// Up to which cycle the class of a line slot's dirty bit stays.
 fn dirty_stays(first_quiet: u32, slots: &SlotTable, slot: u32, cycle: u32) -> u32
     requires slot { slot < slot_count slots.now.shape }
-    requires number { cycle < 4294967295 }
-    ensures { result ≡ stays.dirty_until (held_in slots.now slot cycle) (stays.quiet_until first_quiet cycle) (next_change slots.now slot cycle) }
+    requires number { cycle < no_cycle }
+    ensures { result ≡ stays.dirty_stays first_quiet slots.now slot cycle }
 {
     let quiet = quiet_until(first_quiet, cycle);
     dirty_until(
@@ -164,7 +162,7 @@ pub(crate) fn stays_until(
     requires life { life.now.shape ≡ recorded.now.shape }
     requires cycles { life.now.cycles ≡ recorded.now.cycles }
     requires slots { slots.now.shape ≡ recorded.now.shape }
-    requires number { cycle < 4294967295 }
+    requires number { cycle < no_cycle }
     ensures { IsStay recorded.now first_quiet life.now slots.now place.now cycle result }
 {
     let shape = recorded.shape();

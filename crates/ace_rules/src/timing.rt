@@ -1,11 +1,10 @@
 // The classes of the bits that only change what is predicted, or when something is done, and of those of the next address.
-ghost use Rattle.std.specs.Prelude.{◌≡◌, ◌↔◌, ℕ, true};
-ghost use Rattle.bit_field.specs.declared.places.Structure.{Structure};
+ghost use Rattle.std.specs.Prelude.{◌≡◌, ℕ};
 ghost use Rattle.bit_field.specs.declared.places.Structure.TheVariants.{Npc};
 ghost use Rattle.ace_law.specs.Classes.{IsClass};
-ghost use Rattle.ace_law.specs.Moments.{IsQuiet, Moment};
+ghost use Rattle.ace_law.specs.Moments.{Moment};
 ghost use Rattle.ace_rules.specs.PipelineTests as asked;
-ghost use Rattle.ace_rules.specs.PipelineTests.{IsOfTiming};
+ghost use Rattle.ace_rules.specs.PipelineTests.{IsTimingClass};
 
 use crate::first_rule::{RuleTests, first_rule, no_rule};
 use ace_class::Class;
@@ -23,7 +22,7 @@ fn timing_tests(quiet: bool) -> RuleTests
 
 /// The class of a bit of the fetch address, of the predictor's tables, of the port or of the order of replacement.
 pub(crate) fn timing_class(quiet: bool) -> Class
-    ensures { (a : Moment) (s : Structure) (k : ℕ) → ((quiet ≡ true) ↔ IsQuiet a) → IsOfTiming s → IsClass result a (record { structure = s; bit = k }) }
+    ensures { IsTimingClass result quiet }
 {
     first_rule(timing_tests(quiet))
 }

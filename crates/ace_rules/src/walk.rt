@@ -4,13 +4,10 @@ ghost use Rattle.std.specs.Prelude.{length, nat_lt, slice_get, option_map, if◌
 ghost use Rattle.rv_table.specs.Effects.{written_register};
 ghost use Rattle.pipe_latch.specs.LatchedActions.{action_of, kind_of};
 ghost use Rattle.pipe_latch.specs.declared.kinds.ExMemKind.TheVariants.{Trap};
-ghost use Rattle.rv_isa.specs.Architecture.{ArchState};
-ghost use Rattle.need_pass.specs.Tables.{Needs};
 ghost use Rattle.rv_table.specs.Actions as rv;
 ghost use Rattle.ace_law.specs.Moments.{IsTold};
 ghost use Rattle.ace_rules.specs.Notes.{AreNotes};
-ghost use Rattle.ace_rules.specs.Situations.{AreMasks, situation_of};
-ghost use Rattle.ace_rules.specs.Walks.{IsInOrder, IsLastClock, IsNoteOf, story_of};
+ghost use Rattle.ace_rules.specs.Walks.{IsInOrder, IsLastClock, IsNoteWith, story_of};
 
 use crate::note::Note;
 use crate::path::{count_on_path, path_address};
@@ -68,7 +65,7 @@ fn address_of(trace: &Trace, i: u32) -> Option<u32>
 fn note_of(machine: &Machine<'_>, trace: &Trace, x: u32, masks: LatchMask) -> Note
     requires order { IsInOrder machine.now.buffer }
     requires room { x + 8 < 2 ^ 32 }
-    ensures { (table : Needs) (arch : ArchState) → AreMasks table arch (situation_of machine.now x) masks → IsNoteOf machine.now arch trace.now.entries table x result }
+    ensures { IsNoteWith machine.now trace.now.entries x masks result }
 {
     let d = machine.id_ex();
     let buffer = machine.inst_buf();

@@ -1,5 +1,6 @@
 use Rattle.std.proofs.Common.{◌≡◌, ℕ, List, ap, refl, subst, ◌∙◌}
-use Rattle.bit_field.specs.declared.places.Structure.TheVariants.{Pc, Npc, Bht, Btb, Ib, IdEx, ExMem, MemWb, Rf, Sb, Port, CData, CTag, CValid, CDirty, CLru}
+use Rattle.bit_field.specs.declared.places.Structure.TheVariants.{Pc, Npc, Bht, Btb, Ib, IdEx, ExMem, MemWb, Rf, Sb, Port}
+use Rattle.bit_field.specs.declared.places.Structure.TheVariants.{CData, CTag, CValid, CDirty, CLru}
 use Rattle.line_life.specs.Lives.{Lives}
 use Rattle.need_pass.specs.Tables.{Needs}
 use Rattle.slot_history.specs.Histories.{Histories}
@@ -44,7 +45,8 @@ tag_class-requires-clause-some c =
     c.self.inside.slots c.self.view_is c.deref-notes.ensures.value c.deref-words.ensures.value c.self.invariant in
     some-line c.args.self.now c.self.inside.needs c.deref-notes.result.now c.deref-words.result.now c.self.inside.quiet c.self.inside.life
     c.self.inside.tags c.self.inside.slots kept c.args.self.now.r refl
-    c.args.cycle c.note_at-note.result.now c.shape-shape.result c.requires.cycle c.note_at-note.ensures (c.shape-shape.ensures ∙ ap (λ (s : Story). s.r.shape) c.self.view_is)
+    c.args.cycle c.note_at-note.result.now c.shape-shape.result c.requires.cycle c.note_at-note.ensures (c.shape-shape.ensures ∙ ap (λ (s :
+    Story). s.r.shape) c.self.view_is)
 
 pub valid_class-requires-clause-some : goal.valid_class-requires-clause-some
 valid_class-requires-clause-some c =
@@ -53,7 +55,8 @@ valid_class-requires-clause-some c =
     c.self.inside.slots c.self.view_is c.deref-notes.ensures.value c.deref-words.ensures.value c.self.invariant in
     some-line c.args.self.now c.self.inside.needs c.deref-notes.result.now c.deref-words.result.now c.self.inside.quiet c.self.inside.life
     c.self.inside.tags c.self.inside.slots kept c.args.self.now.r refl
-    c.args.cycle c.note_at-note.result.now c.shape-shape.result c.requires.cycle c.note_at-note.ensures (c.shape-shape.ensures ∙ ap (λ (s : Story). s.r.shape) c.self.view_is)
+    c.args.cycle c.note_at-note.result.now c.shape-shape.result c.requires.cycle c.note_at-note.ensures (c.shape-shape.ensures ∙ ap (λ (s :
+    Story). s.r.shape) c.self.view_is)
 
 pub dirty_class-requires-clause-some : goal.dirty_class-requires-clause-some
 dirty_class-requires-clause-some c =
@@ -62,7 +65,8 @@ dirty_class-requires-clause-some c =
     c.self.inside.slots c.self.view_is c.deref-notes.ensures.value c.deref-words.ensures.value c.self.invariant in
     some-line c.args.self.now c.self.inside.needs c.deref-notes.result.now c.deref-words.result.now c.self.inside.quiet c.self.inside.life
     c.self.inside.tags c.self.inside.slots kept c.args.self.now.r refl
-    c.args.cycle c.note_at-note.result.now c.shape-shape.result c.requires.cycle c.note_at-note.ensures (c.shape-shape.ensures ∙ ap (λ (s : Story). s.r.shape) c.self.view_is)
+    c.args.cycle c.note_at-note.result.now c.shape-shape.result c.requires.cycle c.note_at-note.ensures (c.shape-shape.ensures ∙ ap (λ (s :
+    Story). s.r.shape) c.self.view_is)
 
 pub data_class-requires-clause-some : goal.data_class-requires-clause-some
 data_class-requires-clause-some c =
@@ -79,7 +83,8 @@ returns-in-Pc c =
     c.self.inside.notes.items c.deref-words.result.now c.self.inside.words.items c.self.inside.quiet c.self.inside.life c.self.inside.tags
     c.self.inside.slots c.self.view_is c.deref-notes.ensures.value c.deref-words.ensures.value c.self.invariant in
     at-structure c.timing_class.result (moment c.args.self.now c.args.cycle) c.args.place.now Pc c.in-Pc.is
-    (c.timing_class.ensures (moment c.args.self.now c.args.cycle) Pc c.args.place.now.bit (known c.args.self.now c.self.inside.needs c.deref-notes.result.now c.deref-words.result.now c.self.inside.quiet c.self.inside.life
+    (c.timing_class.ensures (moment c.args.self.now c.args.cycle) Pc c.args.place.now.bit (known c.args.self.now c.self.inside.needs
+    c.deref-notes.result.now c.deref-words.result.now c.self.inside.quiet c.self.inside.life
     c.self.inside.tags c.self.inside.slots kept c.args.self.now.r refl
     c.args.cycle c.note_at-note.result.now c.requires.cycle c.note_at-note.ensures).silent tt)
 
@@ -89,7 +94,8 @@ returns-in-Bht c =
     c.self.inside.notes.items c.deref-words.result.now c.self.inside.words.items c.self.inside.quiet c.self.inside.life c.self.inside.tags
     c.self.inside.slots c.self.view_is c.deref-notes.ensures.value c.deref-words.ensures.value c.self.invariant in
     at-structure c.timing_class-in-Bht.result (moment c.args.self.now c.args.cycle) c.args.place.now Bht c.in-Bht.is
-    (c.timing_class-in-Bht.ensures (moment c.args.self.now c.args.cycle) Bht c.args.place.now.bit (known c.args.self.now c.self.inside.needs c.deref-notes.result.now c.deref-words.result.now c.self.inside.quiet c.self.inside.life
+    (c.timing_class-in-Bht.ensures (moment c.args.self.now c.args.cycle) Bht c.args.place.now.bit (known c.args.self.now
+    c.self.inside.needs c.deref-notes.result.now c.deref-words.result.now c.self.inside.quiet c.self.inside.life
     c.self.inside.tags c.self.inside.slots kept c.args.self.now.r refl
     c.args.cycle c.note_at-note.result.now c.requires.cycle c.note_at-note.ensures).silent tt)
 
@@ -99,7 +105,8 @@ returns-in-Btb c =
     c.self.inside.notes.items c.deref-words.result.now c.self.inside.words.items c.self.inside.quiet c.self.inside.life c.self.inside.tags
     c.self.inside.slots c.self.view_is c.deref-notes.ensures.value c.deref-words.ensures.value c.self.invariant in
     at-structure c.timing_class-in-Btb.result (moment c.args.self.now c.args.cycle) c.args.place.now Btb c.in-Btb.is
-    (c.timing_class-in-Btb.ensures (moment c.args.self.now c.args.cycle) Btb c.args.place.now.bit (known c.args.self.now c.self.inside.needs c.deref-notes.result.now c.deref-words.result.now c.self.inside.quiet c.self.inside.life
+    (c.timing_class-in-Btb.ensures (moment c.args.self.now c.args.cycle) Btb c.args.place.now.bit (known c.args.self.now
+    c.self.inside.needs c.deref-notes.result.now c.deref-words.result.now c.self.inside.quiet c.self.inside.life
     c.self.inside.tags c.self.inside.slots kept c.args.self.now.r refl
     c.args.cycle c.note_at-note.result.now c.requires.cycle c.note_at-note.ensures).silent tt)
 
@@ -109,7 +116,8 @@ returns-in-Port c =
     c.self.inside.notes.items c.deref-words.result.now c.self.inside.words.items c.self.inside.quiet c.self.inside.life c.self.inside.tags
     c.self.inside.slots c.self.view_is c.deref-notes.ensures.value c.deref-words.ensures.value c.self.invariant in
     at-structure c.timing_class-in-Port.result (moment c.args.self.now c.args.cycle) c.args.place.now Port c.in-Port.is
-    (c.timing_class-in-Port.ensures (moment c.args.self.now c.args.cycle) Port c.args.place.now.bit (known c.args.self.now c.self.inside.needs c.deref-notes.result.now c.deref-words.result.now c.self.inside.quiet c.self.inside.life
+    (c.timing_class-in-Port.ensures (moment c.args.self.now c.args.cycle) Port c.args.place.now.bit (known c.args.self.now
+    c.self.inside.needs c.deref-notes.result.now c.deref-words.result.now c.self.inside.quiet c.self.inside.life
     c.self.inside.tags c.self.inside.slots kept c.args.self.now.r refl
     c.args.cycle c.note_at-note.result.now c.requires.cycle c.note_at-note.ensures).silent tt)
 
@@ -119,7 +127,8 @@ returns-in-CLru c =
     c.self.inside.notes.items c.deref-words.result.now c.self.inside.words.items c.self.inside.quiet c.self.inside.life c.self.inside.tags
     c.self.inside.slots c.self.view_is c.deref-notes.ensures.value c.deref-words.ensures.value c.self.invariant in
     at-structure c.timing_class-in-CLru.result (moment c.args.self.now c.args.cycle) c.args.place.now CLru c.in-CLru.is
-    (c.timing_class-in-CLru.ensures (moment c.args.self.now c.args.cycle) CLru c.args.place.now.bit (known c.args.self.now c.self.inside.needs c.deref-notes.result.now c.deref-words.result.now c.self.inside.quiet c.self.inside.life
+    (c.timing_class-in-CLru.ensures (moment c.args.self.now c.args.cycle) CLru c.args.place.now.bit (known c.args.self.now
+    c.self.inside.needs c.deref-notes.result.now c.deref-words.result.now c.self.inside.quiet c.self.inside.life
     c.self.inside.tags c.self.inside.slots kept c.args.self.now.r refl
     c.args.cycle c.note_at-note.result.now c.requires.cycle c.note_at-note.ensures).silent tt)
 
@@ -134,7 +143,8 @@ returns-in-IdEx c =
     c.self.inside.notes.items c.deref-words.result.now c.self.inside.words.items c.self.inside.quiet c.self.inside.life c.self.inside.tags
     c.self.inside.slots c.self.view_is c.deref-notes.ensures.value c.deref-words.ensures.value c.self.invariant in
     at-structure c.decoded_class.result (moment c.args.self.now c.args.cycle) c.args.place.now IdEx c.in-IdEx.is
-    (c.decoded_class.ensures (moment c.args.self.now c.args.cycle) c.self.inside.needs (known c.args.self.now c.self.inside.needs c.deref-notes.result.now c.deref-words.result.now c.self.inside.quiet c.self.inside.life
+    (c.decoded_class.ensures (moment c.args.self.now c.args.cycle) c.self.inside.needs (known c.args.self.now c.self.inside.needs
+    c.deref-notes.result.now c.deref-words.result.now c.self.inside.quiet c.self.inside.life
     c.self.inside.tags c.self.inside.slots kept c.args.self.now.r refl
     c.args.cycle c.note_at-note.result.now c.requires.cycle c.note_at-note.ensures))
 
@@ -144,7 +154,8 @@ returns-in-ExMem c =
     c.self.inside.notes.items c.deref-words.result.now c.self.inside.words.items c.self.inside.quiet c.self.inside.life c.self.inside.tags
     c.self.inside.slots c.self.view_is c.deref-notes.ensures.value c.deref-words.ensures.value c.self.invariant in
     at-structure c.executed_class.result (moment c.args.self.now c.args.cycle) c.args.place.now ExMem c.in-ExMem.is
-    (c.executed_class.ensures (moment c.args.self.now c.args.cycle) c.self.inside.needs (known c.args.self.now c.self.inside.needs c.deref-notes.result.now c.deref-words.result.now c.self.inside.quiet c.self.inside.life
+    (c.executed_class.ensures (moment c.args.self.now c.args.cycle) c.self.inside.needs (known c.args.self.now c.self.inside.needs
+    c.deref-notes.result.now c.deref-words.result.now c.self.inside.quiet c.self.inside.life
     c.self.inside.tags c.self.inside.slots kept c.args.self.now.r refl
     c.args.cycle c.note_at-note.result.now c.requires.cycle c.note_at-note.ensures))
 
@@ -154,7 +165,8 @@ returns-in-MemWb c =
     c.self.inside.notes.items c.deref-words.result.now c.self.inside.words.items c.self.inside.quiet c.self.inside.life c.self.inside.tags
     c.self.inside.slots c.self.view_is c.deref-notes.ensures.value c.deref-words.ensures.value c.self.invariant in
     at-structure c.result_class.result (moment c.args.self.now c.args.cycle) c.args.place.now MemWb c.in-MemWb.is
-    (c.result_class.ensures (moment c.args.self.now c.args.cycle) c.self.inside.needs (known c.args.self.now c.self.inside.needs c.deref-notes.result.now c.deref-words.result.now c.self.inside.quiet c.self.inside.life
+    (c.result_class.ensures (moment c.args.self.now c.args.cycle) c.self.inside.needs (known c.args.self.now c.self.inside.needs
+    c.deref-notes.result.now c.deref-words.result.now c.self.inside.quiet c.self.inside.life
     c.self.inside.tags c.self.inside.slots kept c.args.self.now.r refl
     c.args.cycle c.note_at-note.result.now c.requires.cycle c.note_at-note.ensures))
 
@@ -164,7 +176,8 @@ returns-in-Rf c =
     c.self.inside.notes.items c.deref-words.result.now c.self.inside.words.items c.self.inside.quiet c.self.inside.life c.self.inside.tags
     c.self.inside.slots c.self.view_is c.deref-notes.ensures.value c.deref-words.ensures.value c.self.invariant in
     at-structure c.register_class.result (moment c.args.self.now c.args.cycle) c.args.place.now Rf c.in-Rf.is
-    (c.register_class.ensures (moment c.args.self.now c.args.cycle) (known c.args.self.now c.self.inside.needs c.deref-notes.result.now c.deref-words.result.now c.self.inside.quiet c.self.inside.life
+    (c.register_class.ensures (moment c.args.self.now c.args.cycle) (known c.args.self.now c.self.inside.needs c.deref-notes.result.now
+    c.deref-words.result.now c.self.inside.quiet c.self.inside.life
     c.self.inside.tags c.self.inside.slots kept c.args.self.now.r refl
     c.args.cycle c.note_at-note.result.now c.requires.cycle c.note_at-note.ensures))
 
@@ -174,7 +187,8 @@ returns-in-Sb c =
     c.self.inside.notes.items c.deref-words.result.now c.self.inside.words.items c.self.inside.quiet c.self.inside.life c.self.inside.tags
     c.self.inside.slots c.self.view_is c.deref-notes.ensures.value c.deref-words.ensures.value c.self.invariant in
     at-structure c.pending_class.result (moment c.args.self.now c.args.cycle) c.args.place.now Sb c.in-Sb.is
-    (c.pending_class.ensures (moment c.args.self.now c.args.cycle) (known c.args.self.now c.self.inside.needs c.deref-notes.result.now c.deref-words.result.now c.self.inside.quiet c.self.inside.life
+    (c.pending_class.ensures (moment c.args.self.now c.args.cycle) (known c.args.self.now c.self.inside.needs c.deref-notes.result.now
+    c.deref-words.result.now c.self.inside.quiet c.self.inside.life
     c.self.inside.tags c.self.inside.slots kept c.args.self.now.r refl
     c.args.cycle c.note_at-note.result.now c.requires.cycle c.note_at-note.ensures)
     (c.image.ensures ∙ ap (λ (s : Story). s.r.image) c.self.view_is))
@@ -185,7 +199,8 @@ returns-in-CData c =
     c.self.inside.notes.items c.deref-words.result.now c.self.inside.words.items c.self.inside.quiet c.self.inside.life c.self.inside.tags
     c.self.inside.slots c.self.view_is c.deref-notes.ensures.value c.deref-words.ensures.value c.self.invariant in
     at-structure c.data_class.result (moment c.args.self.now c.args.cycle) c.args.place.now CData c.in-CData.is
-    (c.data_class.ensures c.args.self.now (data-tables c.args.self.now c.self.inside.needs c.deref-notes.result.now c.deref-words.result.now c.self.inside.quiet c.self.inside.life
+    (c.data_class.ensures c.args.self.now (data-tables c.args.self.now c.self.inside.needs c.deref-notes.result.now
+    c.deref-words.result.now c.self.inside.quiet c.self.inside.life
     c.self.inside.tags c.self.inside.slots kept c.args.self.now.r refl
     c.shape-shape.result (c.shape-shape.ensures ∙ ap (λ (s : Story). s.r.shape) c.self.view_is)))
 
@@ -195,7 +210,8 @@ returns-in-CTag c =
     c.self.inside.notes.items c.deref-words.result.now c.self.inside.words.items c.self.inside.quiet c.self.inside.life c.self.inside.tags
     c.self.inside.slots c.self.view_is c.deref-notes.ensures.value c.deref-words.ensures.value c.self.invariant in
     at-structure c.tag_class.result (moment c.args.self.now c.args.cycle) c.args.place.now CTag c.in-CTag.is
-    (c.tag_class.ensures (moment c.args.self.now c.args.cycle) c.self.inside.needs (known c.args.self.now c.self.inside.needs c.deref-notes.result.now c.deref-words.result.now c.self.inside.quiet c.self.inside.life
+    (c.tag_class.ensures (moment c.args.self.now c.args.cycle) c.self.inside.needs (known c.args.self.now c.self.inside.needs
+    c.deref-notes.result.now c.deref-words.result.now c.self.inside.quiet c.self.inside.life
     c.self.inside.tags c.self.inside.slots kept c.args.self.now.r refl
     c.args.cycle c.note_at-note.result.now c.requires.cycle c.note_at-note.ensures)
     (tables c.args.self.now c.self.inside.needs c.deref-notes.result.now c.deref-words.result.now c.self.inside.quiet c.self.inside.life
@@ -208,7 +224,8 @@ returns-in-CValid c =
     c.self.inside.notes.items c.deref-words.result.now c.self.inside.words.items c.self.inside.quiet c.self.inside.life c.self.inside.tags
     c.self.inside.slots c.self.view_is c.deref-notes.ensures.value c.deref-words.ensures.value c.self.invariant in
     at-structure c.valid_class.result (moment c.args.self.now c.args.cycle) c.args.place.now CValid c.in-CValid.is
-    (c.valid_class.ensures (moment c.args.self.now c.args.cycle) c.self.inside.needs (known c.args.self.now c.self.inside.needs c.deref-notes.result.now c.deref-words.result.now c.self.inside.quiet c.self.inside.life
+    (c.valid_class.ensures (moment c.args.self.now c.args.cycle) c.self.inside.needs (known c.args.self.now c.self.inside.needs
+    c.deref-notes.result.now c.deref-words.result.now c.self.inside.quiet c.self.inside.life
     c.self.inside.tags c.self.inside.slots kept c.args.self.now.r refl
     c.args.cycle c.note_at-note.result.now c.requires.cycle c.note_at-note.ensures)
     (tables c.args.self.now c.self.inside.needs c.deref-notes.result.now c.deref-words.result.now c.self.inside.quiet c.self.inside.life
@@ -221,7 +238,8 @@ returns-in-CDirty c =
     c.self.inside.notes.items c.deref-words.result.now c.self.inside.words.items c.self.inside.quiet c.self.inside.life c.self.inside.tags
     c.self.inside.slots c.self.view_is c.deref-notes.ensures.value c.deref-words.ensures.value c.self.invariant in
     at-structure c.dirty_class.result (moment c.args.self.now c.args.cycle) c.args.place.now CDirty c.in-CDirty.is
-    (c.dirty_class.ensures (moment c.args.self.now c.args.cycle) c.self.inside.needs (known c.args.self.now c.self.inside.needs c.deref-notes.result.now c.deref-words.result.now c.self.inside.quiet c.self.inside.life
+    (c.dirty_class.ensures (moment c.args.self.now c.args.cycle) c.self.inside.needs (known c.args.self.now c.self.inside.needs
+    c.deref-notes.result.now c.deref-words.result.now c.self.inside.quiet c.self.inside.life
     c.self.inside.tags c.self.inside.slots kept c.args.self.now.r refl
     c.args.cycle c.note_at-note.result.now c.requires.cycle c.note_at-note.ensures)
     (tables c.args.self.now c.self.inside.needs c.deref-notes.result.now c.deref-words.result.now c.self.inside.quiet c.self.inside.life
@@ -234,7 +252,8 @@ returns-in-Ib c =
     c.self.inside.notes.items c.deref-words.result.now c.self.inside.words.items c.self.inside.quiet c.self.inside.life c.self.inside.tags
     c.self.inside.slots c.self.view_is c.deref-notes.ensures.value c.deref-words.ensures.value c.self.invariant in
     at-structure c.fetched_class.result (moment c.args.self.now c.args.cycle) c.args.place.now Ib c.in-Ib.is
-    (c.fetched_class.ensures (moment c.args.self.now c.args.cycle) c.self.inside.needs (known c.args.self.now c.self.inside.needs c.deref-notes.result.now c.deref-words.result.now c.self.inside.quiet c.self.inside.life
+    (c.fetched_class.ensures (moment c.args.self.now c.args.cycle) c.self.inside.needs (known c.args.self.now c.self.inside.needs
+    c.deref-notes.result.now c.deref-words.result.now c.self.inside.quiet c.self.inside.life
     c.self.inside.tags c.self.inside.slots kept c.args.self.now.r refl
     c.args.cycle c.note_at-note.result.now c.requires.cycle c.note_at-note.ensures)
     (masks c.args.self.now c.self.inside.needs c.deref-notes.result.now c.deref-words.result.now c.self.inside.quiet c.self.inside.life
