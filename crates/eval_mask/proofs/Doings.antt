@@ -1,7 +1,7 @@
 -- Other doings of ID/EX, where it is completed: MEM/WB and EX/MEM leave what they leave.
 use Rattle.std.proofs.Common.{◌≡◌, ◌↔◌, ℕ, ◌<◌, Bool, true, false, refl, sym, ◌∙◌, ap, subst, arith, inl, inr}
 use Rattle.std.specs.Int.{bit_at}
-use Rattle.std.specs.Prelude.{◌&&◌, IsTrue, None, nat_lt, slice_index}
+use Rattle.std.specs.Prelude.{◌&&◌, IsTrue, slice_index}
 use Rattle.std.proofs.lemmas.Bool.{cases_eq, cases_lt}
 use Rattle.std.proofs.lemmas.Bool.Decides.{nat_tests}
 use Rattle.std.proofs.lemmas.Nat.Bits.{bit_at-zero}

@@ -17,7 +17,7 @@ use Rattle.eval_mask.specs.declared.completing.Change.{Change}
 use Rattle.eval_mask.specs.declared.completing.Doing.{Doing}
 use Rattle.eval_mask.specs.declared.completing.Write.{Write}
 use Rattle.eval_mask.proofs.Completed.{doing_told}
-use Rattle.eval_mask.proofs.Doings.{clock_is, left_again, own_is, reached_is}
+use Rattle.eval_mask.proofs.Doings.{clock_is, own_is, reached_is}
 use Rattle.eval_mask.proofs.Masked.{IsAskedOf, masked_exactly, masked_never}
 use Rattle.eval_mask.proofs.OwnChange.{own_write, write_of_change}
 

@@ -1,6 +1,6 @@
 -- Fields of ID/EX that its operation doesn't read, or in whose place a value is handed in.
-use Rattle.std.proofs.Common.{◌≡◌, ℕ, Bool, true, false, refl, sym, ◌∙◌, ap, arith, inl, inr}
-use Rattle.std.specs.Prelude.{◌==◌, ◌||◌, ◌&&◌, ◌⊎◌, not, IsTrue}
+use Rattle.std.proofs.Common.{◌≡◌, ℕ, Bool, true, false, refl, ◌∙◌, ap, arith, inl, inr}
+use Rattle.std.specs.Prelude.{◌||◌, ◌⊎◌, not, IsTrue}
 use Rattle.std.proofs.lemmas.Bool.Decides.{nat_tests}
 use Rattle.elf_load.specs.Image.{LoadedImage}
 use Rattle.rv_table.specs.Actions.{action, asked, asked_by, counter_by, is_clocked, judged, next_address, taken_by, target_by, value_by, with_counter}
@@ -10,9 +10,8 @@ use Rattle.rv_table.specs.declared.operation.Operation.TheVariants.{Illegal, Fet
 use Rattle.rv_table.specs.declared.operation.Operation.TheVariants.{AluImmediate, Alu, Fence, Ecall, Ebreak, ReadCounter}
 use Rattle.rv_table.specs.declared.operation.CounterKind.TheVariants.{Cycle, Instret, Cycleh, Instreth}
 use Rattle.pipe_latch.specs.Latches.{DecodedLatch, ResultLatch, op_of_latch}
-use Rattle.eval_mask.specs.Aftermaths.{doing_after, doing_with, operand_after}
+use Rattle.eval_mask.specs.Aftermaths.{doing_with, operand_after}
 use Rattle.eval_mask.specs.Unread.{DoesTheSame, is_forwarded, reads_a, reads_b, reads_immediate}
-use Rattle.eval_mask.specs.declared.completing.Doing.{Doing}
 use Rattle.eval_mask.specs.declared.completing.Write.{Write}
 
 any_a : (image : LoadedImage) (d : DecodedLatch) (x a v held : ℕ) (o : Operation) → operation_of d.op ≡ o → reads_a o ≡ false

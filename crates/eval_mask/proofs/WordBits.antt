@@ -12,7 +12,6 @@ use Rattle.rv_table.specs.Operations.{operation_of}
 use Rattle.rv_table.specs.Rows.{row_of}
 use Rattle.rv_table.specs.declared.op.Op.{Op}
 use Rattle.rv_table.specs.declared.op.TheConstants.{ILLEGAL_CODE}
-use Rattle.rv_table.specs.declared.operation.Operation.{Operation}
 use Rattle.rv_table.specs.declared.operation.Operation.TheVariants.{Illegal}
 use Rattle.rv_table.specs.declared.trap.TheConstants.{ILLEGAL_INSTRUCTION}
 use Rattle.rv_isa.specs.Instruction.{State, completed}

@@ -1,4 +1,4 @@
-use Rattle.std.proofs.Common.{ℕ, ◌+◌, arith}
+use Rattle.std.proofs.Common.{arith}
 use Rattle.eval_mask.specs.LatchMasks.{IsDecodedMasked, Latches}
 use Rattle.eval_mask.proofs.Masked.{decoded_after, off_path}
 use Rattle.eval_mask.proofs.Rows.{row_cut, row_done, row_next, row_rest, row_start}

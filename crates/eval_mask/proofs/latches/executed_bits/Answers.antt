@@ -1,4 +1,4 @@
-use Rattle.std.proofs.Common.{ℕ, ◌+◌, arith}
+use Rattle.std.proofs.Common.{arith}
 use Rattle.eval_mask.specs.LatchMasks.{IsExecutedMasked, Latches}
 use Rattle.eval_mask.proofs.Masked.{executed_after}
 use Rattle.eval_mask.proofs.Rows.{row_done, row_next}

@@ -1,4 +1,4 @@
-use Rattle.std.proofs.Common.{ℕ, ◌+◌, arith}
+use Rattle.std.proofs.Common.{arith}
 use Rattle.eval_mask.specs.LatchMasks.{IsResultMasked, Latches}
 use Rattle.eval_mask.proofs.Masked.{no_both, written_after}
 use Rattle.eval_mask.proofs.MaskLoops.{mask_kept, mask_set}

@@ -1,4 +1,4 @@
-use Rattle.std.proofs.Common.{sym, ◌∙◌, ap, ℕ}
+use Rattle.std.proofs.Common.{sym, ◌∙◌, ap}
 use Rattle.std.specs.Prelude.{not}
 use Rattle.rv_table.specs.declared.op.Op.{Op}
 use Rattle.eval_mask.proofs.WordBits.{illegal_alone, not_some}
