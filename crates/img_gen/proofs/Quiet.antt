@@ -7,7 +7,7 @@ use Rattle.rv_isa.specs.Instruction.{action_in, end_of}
 use Rattle.rv_table.specs.Accesses.{load_size, store_size}
 use Rattle.rv_table.specs.Actions.{action, asked, asked_by, is_aligned, judged, next_address, next_word, some_executable, taken_by}
 use Rattle.rv_table.specs.Arithmetic.{sum32}
-use Rattle.rv_table.specs.Effects.{written_register}
+use Rattle.rv_table.specs.Effects.{byte_put, written_register}
 use Rattle.rv_table.specs.Operations.{of_registers, operation_of}
 use Rattle.rv_table.specs.Rows.{row_of}
 use Rattle.rv_table.specs.Words.{sign_extended}
@@ -23,10 +23,11 @@ use Rattle.rv_table.specs.declared.operation.StoreKind.TheVariants.{Sb, Sw}
 use Rattle.img_gen.specs.Program.{body_op, by_kind, byte_offset, immediate, register_at, two_registers, word_offset}
 use Rattle.img_gen.specs.declared.program.TheConstants.{S0}
 
--- it goes on to the next word, doesn't end the run, and writes none of the registers 1 to 9
+-- it goes on to the next word, doesn't end the run, puts no byte, and writes none of the registers 1 to 9
 pub record IsQuiet (image : LoadedImage) (op : Op) (pc a b : ℕ) : Type 0 where
   pub next : next_address op pc a b ≡ next_word pc
   pub running : end_of (action_in image op pc a b) ≡ None
+  pub silent : byte_put (action_in image op pc a b) ≡ None
   pub keeps : (written_register (action_in image op pc a b) ≡ 0) ⊎ (9 < written_register (action_in image op pc a b))
 
 -- so it does where s0, if that is its operand, is the address of the data part
@@ -40,11 +41,11 @@ pub record HasRoom (image : LoadedImage) : Type 0 where
 
 quiet_alu : (image : LoadedImage) (op : Op) (kind : AluKind) → operation_of op.code ≡ Alu kind → 9 < op.rd → IsSafe image op
 unfolding action asked asked_by judged next_address taken_by
-quiet_alu image op kind e h pc a b s = record { next = rw e refl; running = rw e refl; keeps = rw e (inr h) }
+quiet_alu image op kind e h pc a b s = record { next = rw e refl; running = rw e refl; silent = rw e refl; keeps = rw e (inr h) }
 
 quiet_immediate : (image : LoadedImage) (op : Op) (kind : AluKind) → operation_of op.code ≡ AluImmediate kind → 9 < op.rd → IsSafe image op
 unfolding action asked asked_by judged next_address taken_by
-quiet_immediate image op kind e h pc a b s = record { next = rw e refl; running = rw e refl; keeps = rw e (inr h) }
+quiet_immediate image op kind e h pc a b s = record { next = rw e refl; running = rw e refl; silent = rw e refl; keeps = rw e (inr h) }
 
 quiet_load : (image : LoadedImage) (op : Op) (kind : LoadKind) (pc a b : ℕ) → operation_of op.code ≡ Load kind → 9 < op.rd
     → is_aligned (load_size kind) (sum32 a op.imm) ≡ true → word_in_ram image (sum32 a op.imm / 4) ≡ true → IsQuiet image op pc a b
@@ -52,6 +53,7 @@ unfolding action asked asked_by judged next_address taken_by
 quiet_load image op kind pc a b e h aligned in_ram = record {
   next = rw e refl;
   running = rw (e, aligned, in_ram) refl;
+  silent = rw (e, aligned, in_ram) refl;
   keeps = rw (e, aligned, in_ram) (inr h);
 }
 
@@ -62,6 +64,7 @@ unfolding action asked asked_by judged next_address taken_by
 quiet_store image op kind pc a b e aligned in_ram plain = record {
   next = rw e refl;
   running = rw (e, aligned, in_ram, plain) refl;
+  silent = rw (e, aligned, in_ram, plain) refl;
   keeps = rw (e, aligned, in_ram, plain) (inl refl);
 }
 
