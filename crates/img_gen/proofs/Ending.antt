@@ -1,5 +1,5 @@
 -- The end of a generated program: it puts the low byte of a0 and exits with it.
-use Rattle.std.proofs.Common.{◌≡◌, ℕ, ◌+◌, ◌%◌, ◌^◌, ◌<◌, [], ◌∷◌, List, None, Some, refl, sym, ap, ◌∙◌, arith}
+use Rattle.std.proofs.Common.{◌≡◌, ℕ, ◌+◌, ◌%◌, ◌^◌, ◌<◌, [], ◌∷◌, List, None, Some, refl, ap, ◌∙◌, arith}
 use Rattle.avf_base.specs.declared.end.End.TheVariants.{Exit}
 use Rattle.elf_load.specs.Image.{LoadedImage}
 use Rattle.rv_isa.specs.Instruction.{State, instruction, op_at, with_byte}

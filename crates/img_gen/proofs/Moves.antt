@@ -1,11 +1,11 @@
 -- Single instructions of a generated program: where each goes on, what it writes, and whether it ends the run.
-use Rattle.std.proofs.Common.{◌≡◌, ℕ, suc, ◌+◌, ◌-◌, ◌*◌, ◌/◌, ◌%◌, ◌^◌, ◌<◌, ◌≤◌, ◌⊎◌, Bool, true, false, None, Some, refl, sym, subst, ap, ◌∙◌, arith}
+use Rattle.std.proofs.Common.{◌≡◌, ℕ, ◌+◌, ◌*◌, ◌/◌, ◌%◌, ◌^◌, true, false, refl, ap, ◌∙◌, arith}
 use Rattle.std.specs.Prelude.{◌==◌}
 use Rattle.std.proofs.lemmas.Bool.Decides.{nat_tests}
 use Rattle.elf_load.specs.Image.{LoadedImage}
 use Rattle.rv_isa.specs.Effects.{operand_b}
 use Rattle.rv_isa.specs.Instruction.{State, action_in, completed, end_of, given, instruction, op_at, put_reg, reg, with_byte}
-use Rattle.rv_table.specs.Actions.{action, asked, asked_by, clock_test, counter_by, holds, is_clocked, judged, next_address, next_word, taken_by, target_by, value_by, with_counter}
+use Rattle.rv_table.specs.Actions.{action, asked, asked_by, counter_by, holds, judged, next_address, next_word, taken_by, target_by, value_by, with_counter}
 use Rattle.rv_table.specs.Arithmetic.{alu, sum32}
 use Rattle.rv_table.specs.Effects.{byte_put, written_register}
 use Rattle.rv_table.specs.Operations.{of_registers, operation_of}

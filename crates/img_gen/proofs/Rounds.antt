@@ -1,5 +1,5 @@
 -- The rounds of a generated program: where the run is, and how many rounds are left.
-use Rattle.std.proofs.Common.{◌≡◌, ℕ, zero, suc, ◌+◌, ◌-◌, ◌*◌, ◌%◌, ◌^◌, ◌<◌, ◌≤◌, ◌⊎◌, inl, inr, false, [], None, refl, sym, ap, ◌∙◌, arith}
+use Rattle.std.proofs.Common.{◌≡◌, ℕ, zero, suc, ◌+◌, ◌*◌, ◌^◌, ◌<◌, ◌≤◌, ◌⊎◌, inl, inr, false, [], None, refl, ap, ◌∙◌, arith}
 use Rattle.std.specs.Prelude.{◌==◌}
 use Rattle.std.proofs.lemmas.Bool.Decides.{nat_tests}
 use Rattle.elf_load.specs.Image.{LoadedImage}
@@ -7,8 +7,7 @@ use Rattle.rv_isa.proofs.RunSteps.{after-next}
 use Rattle.rv_isa.specs.Effects.{operand_b}
 use Rattle.rv_isa.specs.Instruction.{State, action_in, given, instruction, op_at, put_reg, reg, with_byte}
 use Rattle.rv_isa.specs.Runs.{after}
-use Rattle.rv_table.specs.Actions.{next_address, next_word}
-use Rattle.rv_table.specs.Arithmetic.{sum32}
+use Rattle.rv_table.specs.Actions.{next_address}
 use Rattle.rv_table.specs.Effects.{written_register}
 use Rattle.rv_table.specs.declared.codes.TheConstants.{JAL, BEQ, ADDI}
 use Rattle.rv_table.specs.declared.op.Op.{Op}
