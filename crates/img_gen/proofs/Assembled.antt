@@ -76,7 +76,8 @@ body_placed : (number size ram i : ℕ) → size ≤ 4096 → IsRamSize ram → 
 body_placed number size ram i h is l =
     let random : ℕ = get_or (random_words number size) i 0 in
     let below : random < 2 ^ 32 = random_below number size i l in
-    placed number size ram (suc (suc i)) (16386 + i) (body_op random) h is (omega arith) (omega arith) (op_of_body number size i (body_op random) l)
+    placed number size ram (suc (suc i)) (16386 + i) (body_op random) h is (omega arith) (omega arith)
+    (op_of_body number size i (body_op random) l)
     (fits_body random below) (small_body random below)
 
 -- instruction i behind the body
@@ -89,7 +90,8 @@ finish_placed number size ram i word op h is l e at small =
 pub loop : (number size ram : ℕ) → size ≤ 4096 → IsRamSize ram → IsLoop (image_with number size ram) size
 loop number size ram h is = record {
   small = h;
-  body = λ i l. rw (body_placed number size ram i h is l) (safe_body (image_with number size ram) (get_or (random_words number size) i 0) (room number size ram h is));
+  body = λ i l. rw (body_placed number size ram i h is l)
+      (safe_body (image_with number size ram) (get_or (random_words number size) i 0) (room number size ram h is));
   less = finish_placed number size ram 0 (16386 + size) _ h is (lit< tt) (omega arith) refl (lit< tt);
   test = finish_placed number size ram 1 (16387 + size) _ h is (lit< tt) (omega arith) refl (lit< tt);
   again = finish_placed number size ram 2 (16388 + size) _ h is (lit< tt) (omega arith) refl (omega arith);

@@ -44,7 +44,8 @@ number_step image word next number a0 bytes at e small fits goes is =
       };
     }
 
-put_step : (image : LoadedImage) (word next a0 : ℕ) (at : State) → op_at image word ≡ of_registers ECALL 0 17 10 → word < 2 ^ 29 → next ≡ word + 1
+put_step : (image : LoadedImage) (word next a0 : ℕ) (at : State) → op_at image word ≡ of_registers ECALL 0 17 10 → word < 2 ^ 29
+    → next ≡ word + 1
     → IsCalling word 1 a0 [] at → IsRunning next a0 (a0 % 2 ^ 8 ∷ []) (instruction image at)
 put_step image word next a0 at e small goes is =
     let word_is = is.other.pc in
@@ -93,7 +94,8 @@ ending image word n m at finish small e pc running silent =
     (put_step image (word + 1) (word + 2) a0 (after image (n + 1) at) finish.put (omega arith) (omega arith) s1) in
     let s3 : IsCalling (word + 3) 93 a0 put (after image m at) =
     moved image (IsCalling (word + 3) 93 a0 put) at (n + 2) m (omega arith) s2.stop
-    (number_step image (word + 2) (word + 3) 93 a0 put (after image (n + 2) at) finish.exit_number (omega arith) (omega arith) (omega arith) s2) in
+    (number_step image (word + 2) (word + 3) 93 a0 put (after image (n + 2) at) finish.exit_number (omega arith) (omega arith)
+    (omega arith) s2) in
     let over : IsOver (a0 % 2 ^ 8) (after image (m + 1) at) =
     moved image (IsOver (a0 % 2 ^ 8)) at m (m + 1) refl s3.other.stop (exit_step image (word + 3) a0 (after image m at) finish.exit s3) in
     record {

@@ -5,7 +5,8 @@ use Rattle.std.proofs.lemmas.Bool.Decides.{nat_tests}
 use Rattle.elf_load.specs.Image.{LoadedImage}
 use Rattle.rv_isa.specs.Effects.{operand_b}
 use Rattle.rv_isa.specs.Instruction.{State, action_in, completed, end_of, given, instruction, op_at, put_reg, reg, with_byte}
-use Rattle.rv_table.specs.Actions.{action, asked, asked_by, counter_by, holds, judged, next_address, next_word, taken_by, target_by, value_by, with_counter}
+use Rattle.rv_table.specs.Actions.{action, asked, asked_by, counter_by, holds, judged, next_address, next_word, taken_by, target_by}
+use Rattle.rv_table.specs.Actions.{value_by, with_counter}
 use Rattle.rv_table.specs.Arithmetic.{alu, sum32}
 use Rattle.rv_table.specs.Effects.{byte_put, written_register}
 use Rattle.rv_table.specs.Operations.{of_registers, operation_of}
@@ -88,10 +89,12 @@ pub puts : (image : LoadedImage) (at : State) → op_at image at.pc ≡ of_regis
     → IsNext image (Puts (reg at.registers 10)) (next_word at.pc) at (instruction image at)
 unfolding action asked asked_by judged next_address taken_by operation_of row_of with_counter counter_by
 puts image at e call =
-    stepped image (of_registers ECALL 0 17 10) (Puts (reg at.registers 10)) (next_word at.pc) (reg at.registers 10) at e refl (rw call refl) refl
+    stepped image (of_registers ECALL 0 17 10) (Puts (reg at.registers 10)) (next_word at.pc) (reg at.registers 10) at e refl
+    (rw call refl) refl
 
 pub exits : (image : LoadedImage) (at : State) → op_at image at.pc ≡ of_registers ECALL 0 17 10 → reg at.registers 17 ≡ 93
     → IsNext image (Exits (reg at.registers 10)) (next_word at.pc) at (instruction image at)
 unfolding action asked asked_by judged next_address taken_by operation_of row_of with_counter counter_by
 exits image at e call =
-    stepped image (of_registers ECALL 0 17 10) (Exits (reg at.registers 10)) (next_word at.pc) (reg at.registers 10) at e refl (rw call refl) refl
+    stepped image (of_registers ECALL 0 17 10) (Exits (reg at.registers 10)) (next_word at.pc) (reg at.registers 10) at e refl
+    (rw call refl) refl

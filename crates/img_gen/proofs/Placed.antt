@@ -20,7 +20,8 @@ pub second_op : (number size : ℕ) (op : Op) → get_or (program number size) 1
 unfolding program
 second_op number size op = refl
 
-pub op_of_body : (number size i : ℕ) (op : Op) → i < size → get_or (program number size) (suc (suc i)) op ≡ body_op (get_or (random_words number size) i 0)
+pub op_of_body : (number size i : ℕ) (op : Op) → i < size
+    → get_or (program number size) (suc (suc i)) op ≡ body_op (get_or (random_words number size) i 0)
 unfolding program
 op_of_body number size i op h =
     let long = body_length number size in

@@ -90,25 +90,31 @@ load_word : (image : LoadedImage) (rd n : ℕ) → HasRoom image → 9 < rd → 
 unfolding operation_of row_of
 load_word image rd n room h pc a b s =
     let e = address a (word_offset n) (s refl) (omega arith) in
-    quiet_load image (immediate LW rd S0 (word_offset n)) Lw pc a b refl h (rw e (word_aligned n)) (rw e (room.words (524288 + word_offset n) (omega arith) (omega arith)))
+    quiet_load image (immediate LW rd S0 (word_offset n)) Lw pc a b refl h (rw e (word_aligned n))
+    (rw e (room.words (524288 + word_offset n) (omega arith) (omega arith)))
 
 load_byte : (image : LoadedImage) (rd n : ℕ) → HasRoom image → 9 < rd → IsSafe image (immediate LBU rd S0 (byte_offset n))
 unfolding operation_of row_of
 load_byte image rd n room h pc a b s =
     let e = address a (byte_offset n) (s refl) (omega arith) in
-    quiet_load image (immediate LBU rd S0 (byte_offset n)) Lbu pc a b refl h (rw e (byte_aligned n)) (rw e (room.words (524288 + byte_offset n) (omega arith) (omega arith)))
+    quiet_load image (immediate LBU rd S0 (byte_offset n)) Lbu pc a b refl h (rw e (byte_aligned n))
+    (rw e (room.words (524288 + byte_offset n) (omega arith) (omega arith)))
 
 store_word : (image : LoadedImage) (rs2 n : ℕ) → HasRoom image → IsSafe image (two_registers SW S0 rs2 (word_offset n))
 unfolding operation_of row_of
 store_word image rs2 n room pc a b s =
     let e = address a (word_offset n) (s refl) (omega arith) in
-    quiet_store image (two_registers SW S0 rs2 (word_offset n)) Sw pc a b refl (rw e (word_aligned n)) (rw e (room.words (524288 + word_offset n) (omega arith) (omega arith))) (rw e (no_code image (524288 + word_offset n) 4 room (omega arith)))
+    quiet_store image (two_registers SW S0 rs2 (word_offset n)) Sw pc a b refl (rw e (word_aligned n))
+    (rw e (room.words (524288 + word_offset n) (omega arith) (omega arith)))
+    (rw e (no_code image (524288 + word_offset n) 4 room (omega arith)))
 
 store_byte : (image : LoadedImage) (rs2 n : ℕ) → HasRoom image → IsSafe image (two_registers SB S0 rs2 (byte_offset n))
 unfolding operation_of row_of
 store_byte image rs2 n room pc a b s =
     let e = address a (byte_offset n) (s refl) (omega arith) in
-    quiet_store image (two_registers SB S0 rs2 (byte_offset n)) Sb pc a b refl (rw e (byte_aligned n)) (rw e (room.words (524288 + byte_offset n) (omega arith) (omega arith))) (rw e (no_code image (524288 + byte_offset n) 1 room (omega arith)))
+    quiet_store image (two_registers SB S0 rs2 (byte_offset n)) Sb pc a b refl (rw e (byte_aligned n))
+    (rw e (room.words (524288 + byte_offset n) (omega arith) (omega arith)))
+    (rw e (no_code image (524288 + byte_offset n) 1 room (omega arith)))
 
 one : (image : LoadedImage) (kind n : ℕ) (x y : Op) → IsSafe image x → IsSafe image y → IsSafe image (if kind == n then x else y)
 one image kind n x y p q = elim (kind == n) as (λ t. IsSafe image (cond t x y)) [ true ↦ p | false ↦ q ]
@@ -136,4 +142,5 @@ safe_by_kind image kind rd rs1 rs2 n room h =
 pub safe_body : (image : LoadedImage) (random : ℕ) → HasRoom image → IsSafe image (body_op random)
 unfolding body_op
 safe_body image random room =
-    safe_by_kind image (random % 2 ^ 4) (register_at random 4) (register_at random 7) (register_at random 10) (random / 2 ^ 20) room (omega arith)
+    safe_by_kind image (random % 2 ^ 4) (register_at random 4) (register_at random 7) (register_at random 10) (random / 2 ^ 20) room
+    (omega arith)

@@ -151,8 +151,10 @@ back_step image size rounds at loop is =
 tested : (image : LoadedImage) (size rounds n m : ℕ) (at : State) → IsLoop image size → rounds < 2 ^ 31 → m ≡ n + size + 1
     → IsAt 16386 (suc rounds) (after image n at) → IsAt (16387 + size) rounds (after image m at)
 tested image size rounds n m at loop few e is =
-    let behind : IsAt (16386 + size) (suc rounds) (after image (n + size) at) = body image size (suc rounds) n at loop is size (n + size) (omega arith) refl in
-    moved image (IsAt (16387 + size) rounds) at (n + size) m e behind.running (less_step image size rounds (after image (n + size) at) loop few behind)
+    let behind : IsAt (16386 + size) (suc rounds) (after image (n + size) at) =
+    body image size (suc rounds) n at loop is size (n + size) (omega arith) refl in
+    moved image (IsAt (16387 + size) rounds) at (n + size) m e behind.running
+    (less_step image size rounds (after image (n + size) at) loop few behind)
 
 -- a round that isn't the last
 pub round : (image : LoadedImage) (size rounds n m : ℕ) (at : State) → IsLoop image size → rounds < 2 ^ 30 → m ≡ n + size + 3
@@ -161,8 +163,10 @@ round image size rounds n m at loop few e is =
     let k : ℕ = n + size + 1 in
     let test : IsAt (16387 + size) (suc rounds) (after image k at) = tested image size (suc rounds) n k at loop (omega arith) refl is in
     let passed : IsAt (16388 + size) (suc rounds) (after image (k + 1) at) =
-    moved image (IsAt (16388 + size) (suc rounds)) at k (k + 1) refl test.running (pass_step image size rounds (after image k at) loop test) in
-    moved image (IsAt 16386 (suc rounds)) at (k + 1) m (omega arith) passed.running (back_step image size (suc rounds) (after image (k + 1) at) loop passed)
+    moved image (IsAt (16388 + size) (suc rounds)) at k (k + 1) refl test.running
+    (pass_step image size rounds (after image k at) loop test) in
+    moved image (IsAt 16386 (suc rounds)) at (k + 1) m (omega arith) passed.running
+    (back_step image size (suc rounds) (after image (k + 1) at) loop passed)
 
 pub last_round : (image : LoadedImage) (size n m : ℕ) (at : State) → IsLoop image size → m ≡ n + size + 2
     → IsAt 16386 1 (after image n at) → IsAt (16389 + size) 0 (after image m at)
