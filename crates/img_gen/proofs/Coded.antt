@@ -1,5 +1,5 @@
 -- What is fetched of a program's operations is these operations.
-use Rattle.std.proofs.Common.{◌≡◌, ℕ, ◌+◌, ◌*◌, ◌/◌, ◌%◌, ◌^◌, ◌<◌, ◌≤◌, List, length, get_or, take, true, refl, sym, ap, ◌∙◌, arith}
+use Rattle.std.proofs.Common.{◌≡◌, ℕ, ◌+◌, ◌*◌, ◌^◌, ◌<◌, ◌≤◌, List, length, get_or, take, true, refl, sym, ap, ◌∙◌, arith}
 use Rattle.std.specs.Prelude.{slice_index}
 use Rattle.std.specs.List.{flat_map}
 use Rattle.std.proofs.lemmas.List.{length-take-le}
@@ -20,15 +20,23 @@ own_word : (op : Op) → word_of op < 2 ^ 32 → word_of_bytes (λ k. slice_inde
 unfolding op_bytes
 own_word op h = omega arith
 
-byte_of_op : (ops : List Op) (i k : ℕ) (op : Op) → i < length ops → k < 4 → slice_index (flat_map op_bytes ops) (4 * i + k) ≡ slice_index (op_bytes (get_or ops i op)) k
+byte_of_op : (ops : List Op) (i k : ℕ) (op : Op) → i < length ops → k < 4
+    → slice_index (flat_map op_bytes ops) (4 * i + k) ≡ slice_index (op_bytes (get_or ops i op)) k
 unfolding op_bytes
 byte_of_op ops i k op h l =
-    let before : length (flat_map op_bytes (take i ops)) ≡ 4 * i = length-code (take i ops) ∙ ap (λ n. 4 * n) (length-take-le i ops (omega arith)) in
+    let before : length (flat_map op_bytes (take i ops)) ≡ 4 * i =
+    length-code (take i ops) ∙ ap (λ n. 4 * n) (length-take-le i ops (omega arith)) in
     ap (λ n. slice_index (flat_map op_bytes ops) (n + k)) (sym before) ∙ get_or-flat_map op_bytes ops i k op 0 h l
 
-word_at_op : (ops : List Op) (i : ℕ) (op : Op) → i < length ops → word_of_bytes (λ k. slice_index (flat_map op_bytes ops) (4 * i + k)) ≡ word_of_bytes (λ k. slice_index (op_bytes (get_or ops i op)) k)
+word_at_op : (ops : List Op) (i : ℕ) (op : Op) → i < length ops
+    → word_of_bytes (λ k. slice_index (flat_map op_bytes ops) (4 * i + k)) ≡ word_of_bytes (λ k. slice_index (op_bytes (get_or ops i op)) k)
 word_at_op ops i op h =
-    rw (byte_of_op ops i 0 op h (omega arith), byte_of_op ops i 1 op h (omega arith), byte_of_op ops i 2 op h (omega arith), byte_of_op ops i 3 op h (omega arith)) refl
+    rw (
+      byte_of_op ops i 0 op h (omega arith),
+      byte_of_op ops i 1 op h (omega arith),
+      byte_of_op ops i 2 op h (omega arith),
+      byte_of_op ops i 3 op h (omega arith),
+    ) refl
 
 decoded_word : (op : Op) → well_formed op ≡ true → op.imm < 2 ^ 32 → decode (word_of_bytes (λ k. slice_index (op_bytes op) k)) ≡ op
 unfolding word_of

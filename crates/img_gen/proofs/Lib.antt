@@ -1,4 +1,5 @@
 pub mod Accepted
+pub mod Assembled
 pub mod Bodies
 pub mod Coded
 pub mod Counted

@@ -63,7 +63,8 @@ unfolding code_in holds
 code_past text a h = grind (arith, nat_tests)
 
 -- no byte behind the text part is code
-pub no_code : (text : List ℕ) (ram a : ℕ) → IsRamSize ram → length text ≤ 458752 → 65536 + length text ≤ a → executable (text_image text ram) a ≡ false
+pub no_code : (text : List ℕ) (ram a : ℕ) → IsRamSize ram → length text ≤ 458752 → 65536 + length text ≤ a
+    → executable (text_image text ram) a ≡ false
 unfolding text_image
 no_code text ram a size h past =
     executable-image_in (text_segment text ∷ []) TEXT_BASE ram a (fits_layout text ram size h) ∙ code_past text a past
@@ -90,7 +91,8 @@ ram_byte : (text : List ℕ) (ram n : ℕ) → n < length text → length text �
 unfolding text_image image_in
 ram_byte text ram n h l =
     let base = base_is text in
-    get_or-map-range_with_len (byte_in (text_segment text ∷ [])) (base_of (text_segment text ∷ [])) ram n (65536 + n) 0 (omega arith) (omega (arith, base))
+    get_or-map-range_with_len (byte_in (text_segment text ∷ [])) (base_of (text_segment text ∷ [])) ram n (65536 + n) 0 (omega arith)
+    (omega (arith, base))
     ∙ text_byte text (65536 + n) n h refl
 
 -- the word of the text part at an index is what is fetched there
@@ -101,8 +103,12 @@ fetched_word text ram i size h l =
     let least = size.least in
     let all = all_code text ram (16384 + i) size h (omega arith) (omega arith) in
     let at : 4 * (16384 + i) - (text_image text ram).base ≡ 4 * i = let base = image_base text ram in omega (arith, base) in
-    let b0 : slice_index (text_image text ram).ram (4 * i + 0) ≡ slice_index text (4 * i + 0) = ram_byte text ram (4 * i + 0) (omega arith) (omega (arith, least)) in
-    let b1 : slice_index (text_image text ram).ram (4 * i + 1) ≡ slice_index text (4 * i + 1) = ram_byte text ram (4 * i + 1) (omega arith) (omega (arith, least)) in
-    let b2 : slice_index (text_image text ram).ram (4 * i + 2) ≡ slice_index text (4 * i + 2) = ram_byte text ram (4 * i + 2) (omega arith) (omega (arith, least)) in
-    let b3 : slice_index (text_image text ram).ram (4 * i + 3) ≡ slice_index text (4 * i + 3) = ram_byte text ram (4 * i + 3) (omega arith) (omega (arith, least)) in
+    let b0 : slice_index (text_image text ram).ram (4 * i + 0) ≡ slice_index text (4 * i + 0) =
+    ram_byte text ram (4 * i + 0) (omega arith) (omega (arith, least)) in
+    let b1 : slice_index (text_image text ram).ram (4 * i + 1) ≡ slice_index text (4 * i + 1) =
+    ram_byte text ram (4 * i + 1) (omega arith) (omega (arith, least)) in
+    let b2 : slice_index (text_image text ram).ram (4 * i + 2) ≡ slice_index text (4 * i + 2) =
+    ram_byte text ram (4 * i + 2) (omega arith) (omega (arith, least)) in
+    let b3 : slice_index (text_image text ram).ram (4 * i + 3) ≡ slice_index text (4 * i + 3) =
+    ram_byte text ram (4 * i + 3) (omega arith) (omega (arith, least)) in
     rw (all, at, word_of_list (text_image text ram).ram (4 * i), b0, b1, b2, b3) refl

@@ -1,13 +1,14 @@
 -- Single instructions of a generated program: where each goes on, what it writes, and whether it ends the run.
-use Rattle.std.proofs.Common.{◌≡◌, ℕ, suc, ◌+◌, ◌-◌, ◌*◌, ◌/◌, ◌%◌, ◌^◌, ◌<◌, ◌≤◌, ◌⊎◌, Bool, true, false, None, Some, refl, sym, subst, ap, ◌∙◌, arith}
+use Rattle.std.proofs.Common.{◌≡◌, ℕ, ◌+◌, ◌*◌, ◌/◌, ◌%◌, ◌^◌, true, false, refl, ap, ◌∙◌, arith}
 use Rattle.std.specs.Prelude.{◌==◌}
 use Rattle.std.proofs.lemmas.Bool.Decides.{nat_tests}
 use Rattle.elf_load.specs.Image.{LoadedImage}
 use Rattle.rv_isa.specs.Effects.{operand_b}
-use Rattle.rv_isa.specs.Instruction.{State, action_in, completed, end_of, given, instruction, op_at, put_reg, reg}
-use Rattle.rv_table.specs.Actions.{action, asked, asked_by, clock_test, counter_by, holds, is_clocked, judged, next_address, next_word, taken_by, target_by, value_by, with_counter}
+use Rattle.rv_isa.specs.Instruction.{State, action_in, completed, end_of, given, instruction, op_at, put_reg, reg, with_byte}
+use Rattle.rv_table.specs.Actions.{action, asked, asked_by, counter_by, holds, judged, next_address, next_word, taken_by, target_by}
+use Rattle.rv_table.specs.Actions.{value_by, with_counter}
 use Rattle.rv_table.specs.Arithmetic.{alu, sum32}
-use Rattle.rv_table.specs.Effects.{written_register}
+use Rattle.rv_table.specs.Effects.{byte_put, written_register}
 use Rattle.rv_table.specs.Operations.{of_registers, operation_of}
 use Rattle.rv_table.specs.Rows.{row_of}
 use Rattle.rv_table.specs.declared.action.Action.{Action}
@@ -21,6 +22,7 @@ pub record IsNext (image : LoadedImage) (done : Action) (next : ℕ) (before aft
   pub pc : after.pc ≡ next
   pub registers : after.registers ≡ put_reg (written_register done) (given image done before.memory) before.registers
   pub stop : after.stop ≡ end_of done
+  pub output : after.log.output ≡ with_byte before.log.output (byte_put done)
 
 opened : (image : LoadedImage) (op : Op) (at : State) → op_at image at.pc ≡ op
     → instruction image at ≡ completed image op at.pc (reg at.registers op.rs1) (reg at.registers op.rs2) at
@@ -40,6 +42,7 @@ stepped image op done next b at e operand acts goes =
       registers = ap (λ (s : State). s.registers) same
           ∙ ap (λ (d : Action). put_reg (written_register d) (given image d at.memory) at.registers) does;
       stop = ap (λ (s : State). s.stop) same ∙ ap end_of does;
+      output = ap (λ (s : State). s.log.output) same ∙ ap (λ (d : Action). with_byte at.log.output (byte_put d)) does;
     }
 
 pub lui : (image : LoadedImage) (rd value : ℕ) (at : State) → op_at image at.pc ≡ immediate LUI rd 0 value
@@ -86,10 +89,12 @@ pub puts : (image : LoadedImage) (at : State) → op_at image at.pc ≡ of_regis
     → IsNext image (Puts (reg at.registers 10)) (next_word at.pc) at (instruction image at)
 unfolding action asked asked_by judged next_address taken_by operation_of row_of with_counter counter_by
 puts image at e call =
-    stepped image (of_registers ECALL 0 17 10) (Puts (reg at.registers 10)) (next_word at.pc) (reg at.registers 10) at e refl (rw call refl) refl
+    stepped image (of_registers ECALL 0 17 10) (Puts (reg at.registers 10)) (next_word at.pc) (reg at.registers 10) at e refl
+    (rw call refl) refl
 
 pub exits : (image : LoadedImage) (at : State) → op_at image at.pc ≡ of_registers ECALL 0 17 10 → reg at.registers 17 ≡ 93
     → IsNext image (Exits (reg at.registers 10)) (next_word at.pc) at (instruction image at)
 unfolding action asked asked_by judged next_address taken_by operation_of row_of with_counter counter_by
 exits image at e call =
-    stepped image (of_registers ECALL 0 17 10) (Exits (reg at.registers 10)) (next_word at.pc) (reg at.registers 10) at e refl (rw call refl) refl
+    stepped image (of_registers ECALL 0 17 10) (Exits (reg at.registers 10)) (next_word at.pc) (reg at.registers 10) at e refl
+    (rw call refl) refl

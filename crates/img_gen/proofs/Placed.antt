@@ -1,5 +1,5 @@
 -- Which instruction of a generated program stands at which index.
-use Rattle.std.proofs.Common.{◌≡◌, ℕ, zero, suc, ◌+◌, ◌*◌, ◌/◌, ◌%◌, ◌^◌, ◌<◌, ◌≤◌, ◌++◌, length, map, get_or, refl, sym, ap, ◌∙◌, arith}
+use Rattle.std.proofs.Common.{◌≡◌, ℕ, suc, ◌+◌, ◌<◌, ◌++◌, length, map, get_or, refl, sym, ap, ◌∙◌, arith}
 use Rattle.std.proofs.lemmas.List.{get_or-append-add, get_or-map, get_or_append_left, length-map}
 use Rattle.rand_core.specs.Pcg32Seed.{pcg32_seed}
 use Rattle.rand_pcg.specs.Pcg.{pcg32_of_seed}
@@ -20,7 +20,8 @@ pub second_op : (number size : ℕ) (op : Op) → get_or (program number size) 1
 unfolding program
 second_op number size op = refl
 
-pub op_of_body : (number size i : ℕ) (op : Op) → i < size → get_or (program number size) (suc (suc i)) op ≡ body_op (get_or (random_words number size) i 0)
+pub op_of_body : (number size i : ℕ) (op : Op) → i < size
+    → get_or (program number size) (suc (suc i)) op ≡ body_op (get_or (random_words number size) i 0)
 unfolding program
 op_of_body number size i op h =
     let long = body_length number size in

@@ -1,5 +1,5 @@
 -- The instructions of a generated program's body go on to the next word, and keep s0 and s1.
-use Rattle.std.proofs.Common.{◌≡◌, ℕ, ◌+◌, ◌*◌, ◌/◌, ◌%◌, ◌^◌, ◌<◌, ◌≤◌, ◌⊎◌, inl, inr, true, false, cond, None, refl, arith}
+use Rattle.std.proofs.Common.{◌≡◌, ℕ, ◌+◌, ◌/◌, ◌%◌, ◌^◌, ◌<◌, ◌≤◌, ◌⊎◌, inl, inr, true, false, cond, None, refl, arith}
 use Rattle.std.specs.Prelude.{◌==◌, if◌then◌else◌}
 use Rattle.std.proofs.lemmas.Bool.Decides.{nat_tests}
 use Rattle.elf_load.specs.Image.{LoadedImage, executable, word_in_ram}
@@ -7,7 +7,7 @@ use Rattle.rv_isa.specs.Instruction.{action_in, end_of}
 use Rattle.rv_table.specs.Accesses.{load_size, store_size}
 use Rattle.rv_table.specs.Actions.{action, asked, asked_by, is_aligned, judged, next_address, next_word, some_executable, taken_by}
 use Rattle.rv_table.specs.Arithmetic.{sum32}
-use Rattle.rv_table.specs.Effects.{written_register}
+use Rattle.rv_table.specs.Effects.{byte_put, written_register}
 use Rattle.rv_table.specs.Operations.{of_registers, operation_of}
 use Rattle.rv_table.specs.Rows.{row_of}
 use Rattle.rv_table.specs.Words.{sign_extended}
@@ -23,10 +23,11 @@ use Rattle.rv_table.specs.declared.operation.StoreKind.TheVariants.{Sb, Sw}
 use Rattle.img_gen.specs.Program.{body_op, by_kind, byte_offset, immediate, register_at, two_registers, word_offset}
 use Rattle.img_gen.specs.declared.program.TheConstants.{S0}
 
--- it goes on to the next word, doesn't end the run, and writes none of the registers 1 to 9
+-- it goes on to the next word, doesn't end the run, puts no byte, and writes none of the registers 1 to 9
 pub record IsQuiet (image : LoadedImage) (op : Op) (pc a b : ℕ) : Type 0 where
   pub next : next_address op pc a b ≡ next_word pc
   pub running : end_of (action_in image op pc a b) ≡ None
+  pub silent : byte_put (action_in image op pc a b) ≡ None
   pub keeps : (written_register (action_in image op pc a b) ≡ 0) ⊎ (9 < written_register (action_in image op pc a b))
 
 -- so it does where s0, if that is its operand, is the address of the data part
@@ -40,11 +41,11 @@ pub record HasRoom (image : LoadedImage) : Type 0 where
 
 quiet_alu : (image : LoadedImage) (op : Op) (kind : AluKind) → operation_of op.code ≡ Alu kind → 9 < op.rd → IsSafe image op
 unfolding action asked asked_by judged next_address taken_by
-quiet_alu image op kind e h pc a b s = record { next = rw e refl; running = rw e refl; keeps = rw e (inr h) }
+quiet_alu image op kind e h pc a b s = record { next = rw e refl; running = rw e refl; silent = rw e refl; keeps = rw e (inr h) }
 
 quiet_immediate : (image : LoadedImage) (op : Op) (kind : AluKind) → operation_of op.code ≡ AluImmediate kind → 9 < op.rd → IsSafe image op
 unfolding action asked asked_by judged next_address taken_by
-quiet_immediate image op kind e h pc a b s = record { next = rw e refl; running = rw e refl; keeps = rw e (inr h) }
+quiet_immediate image op kind e h pc a b s = record { next = rw e refl; running = rw e refl; silent = rw e refl; keeps = rw e (inr h) }
 
 quiet_load : (image : LoadedImage) (op : Op) (kind : LoadKind) (pc a b : ℕ) → operation_of op.code ≡ Load kind → 9 < op.rd
     → is_aligned (load_size kind) (sum32 a op.imm) ≡ true → word_in_ram image (sum32 a op.imm / 4) ≡ true → IsQuiet image op pc a b
@@ -52,6 +53,7 @@ unfolding action asked asked_by judged next_address taken_by
 quiet_load image op kind pc a b e h aligned in_ram = record {
   next = rw e refl;
   running = rw (e, aligned, in_ram) refl;
+  silent = rw (e, aligned, in_ram) refl;
   keeps = rw (e, aligned, in_ram) (inr h);
 }
 
@@ -62,6 +64,7 @@ unfolding action asked asked_by judged next_address taken_by
 quiet_store image op kind pc a b e aligned in_ram plain = record {
   next = rw e refl;
   running = rw (e, aligned, in_ram, plain) refl;
+  silent = rw (e, aligned, in_ram, plain) refl;
   keeps = rw (e, aligned, in_ram, plain) (inl refl);
 }
 
@@ -87,25 +90,31 @@ load_word : (image : LoadedImage) (rd n : ℕ) → HasRoom image → 9 < rd → 
 unfolding operation_of row_of
 load_word image rd n room h pc a b s =
     let e = address a (word_offset n) (s refl) (omega arith) in
-    quiet_load image (immediate LW rd S0 (word_offset n)) Lw pc a b refl h (rw e (word_aligned n)) (rw e (room.words (524288 + word_offset n) (omega arith) (omega arith)))
+    quiet_load image (immediate LW rd S0 (word_offset n)) Lw pc a b refl h (rw e (word_aligned n))
+    (rw e (room.words (524288 + word_offset n) (omega arith) (omega arith)))
 
 load_byte : (image : LoadedImage) (rd n : ℕ) → HasRoom image → 9 < rd → IsSafe image (immediate LBU rd S0 (byte_offset n))
 unfolding operation_of row_of
 load_byte image rd n room h pc a b s =
     let e = address a (byte_offset n) (s refl) (omega arith) in
-    quiet_load image (immediate LBU rd S0 (byte_offset n)) Lbu pc a b refl h (rw e (byte_aligned n)) (rw e (room.words (524288 + byte_offset n) (omega arith) (omega arith)))
+    quiet_load image (immediate LBU rd S0 (byte_offset n)) Lbu pc a b refl h (rw e (byte_aligned n))
+    (rw e (room.words (524288 + byte_offset n) (omega arith) (omega arith)))
 
 store_word : (image : LoadedImage) (rs2 n : ℕ) → HasRoom image → IsSafe image (two_registers SW S0 rs2 (word_offset n))
 unfolding operation_of row_of
 store_word image rs2 n room pc a b s =
     let e = address a (word_offset n) (s refl) (omega arith) in
-    quiet_store image (two_registers SW S0 rs2 (word_offset n)) Sw pc a b refl (rw e (word_aligned n)) (rw e (room.words (524288 + word_offset n) (omega arith) (omega arith))) (rw e (no_code image (524288 + word_offset n) 4 room (omega arith)))
+    quiet_store image (two_registers SW S0 rs2 (word_offset n)) Sw pc a b refl (rw e (word_aligned n))
+    (rw e (room.words (524288 + word_offset n) (omega arith) (omega arith)))
+    (rw e (no_code image (524288 + word_offset n) 4 room (omega arith)))
 
 store_byte : (image : LoadedImage) (rs2 n : ℕ) → HasRoom image → IsSafe image (two_registers SB S0 rs2 (byte_offset n))
 unfolding operation_of row_of
 store_byte image rs2 n room pc a b s =
     let e = address a (byte_offset n) (s refl) (omega arith) in
-    quiet_store image (two_registers SB S0 rs2 (byte_offset n)) Sb pc a b refl (rw e (byte_aligned n)) (rw e (room.words (524288 + byte_offset n) (omega arith) (omega arith))) (rw e (no_code image (524288 + byte_offset n) 1 room (omega arith)))
+    quiet_store image (two_registers SB S0 rs2 (byte_offset n)) Sb pc a b refl (rw e (byte_aligned n))
+    (rw e (room.words (524288 + byte_offset n) (omega arith) (omega arith)))
+    (rw e (no_code image (524288 + byte_offset n) 1 room (omega arith)))
 
 one : (image : LoadedImage) (kind n : ℕ) (x y : Op) → IsSafe image x → IsSafe image y → IsSafe image (if kind == n then x else y)
 one image kind n x y p q = elim (kind == n) as (λ t. IsSafe image (cond t x y)) [ true ↦ p | false ↦ q ]
@@ -133,4 +142,5 @@ safe_by_kind image kind rd rs1 rs2 n room h =
 pub safe_body : (image : LoadedImage) (random : ℕ) → HasRoom image → IsSafe image (body_op random)
 unfolding body_op
 safe_body image random room =
-    safe_by_kind image (random % 2 ^ 4) (register_at random 4) (register_at random 7) (register_at random 10) (random / 2 ^ 20) room (omega arith)
+    safe_by_kind image (random % 2 ^ 4) (register_at random 4) (register_at random 7) (register_at random 10) (random / 2 ^ 20) room
+    (omega arith)

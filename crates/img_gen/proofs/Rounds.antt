@@ -1,14 +1,13 @@
 -- The rounds of a generated program: where the run is, and how many rounds are left.
-use Rattle.std.proofs.Common.{◌≡◌, ℕ, zero, suc, ◌+◌, ◌-◌, ◌*◌, ◌%◌, ◌^◌, ◌<◌, ◌≤◌, ◌⊎◌, inl, inr, false, None, refl, sym, ap, ◌∙◌, arith}
+use Rattle.std.proofs.Common.{◌≡◌, ℕ, zero, suc, ◌+◌, ◌*◌, ◌^◌, ◌<◌, ◌≤◌, ◌⊎◌, inl, inr, false, [], None, refl, ap, ◌∙◌, arith}
 use Rattle.std.specs.Prelude.{◌==◌}
 use Rattle.std.proofs.lemmas.Bool.Decides.{nat_tests}
 use Rattle.elf_load.specs.Image.{LoadedImage}
 use Rattle.rv_isa.proofs.RunSteps.{after-next}
 use Rattle.rv_isa.specs.Effects.{operand_b}
-use Rattle.rv_isa.specs.Instruction.{State, action_in, given, instruction, op_at, put_reg, reg}
+use Rattle.rv_isa.specs.Instruction.{State, action_in, given, instruction, op_at, put_reg, reg, with_byte}
 use Rattle.rv_isa.specs.Runs.{after}
-use Rattle.rv_table.specs.Actions.{next_address, next_word}
-use Rattle.rv_table.specs.Arithmetic.{sum32}
+use Rattle.rv_table.specs.Actions.{next_address}
 use Rattle.rv_table.specs.Effects.{written_register}
 use Rattle.rv_table.specs.declared.codes.TheConstants.{JAL, BEQ, ADDI}
 use Rattle.rv_table.specs.declared.op.Op.{Op}
@@ -16,12 +15,13 @@ use Rattle.img_gen.specs.Program.{back, immediate, two_registers}
 use Rattle.img_gen.proofs.Moves.{IsNext, addi, beq_passed, beq_taken, jal, stepped}
 use Rattle.img_gen.proofs.Quiet.{IsQuiet, IsSafe}
 
--- the run is at a word, with the data part's address in s0 and so many rounds left in s1
+-- the run is at a word, with the data part's address in s0 and so many rounds left in s1, and has put no byte
 pub record IsAt (word rounds : ℕ) (at : State) : Type 0 where
   pub pc : at.pc ≡ word
   pub base : at.registers 8 ≡ 524288
   pub left : at.registers 9 ≡ rounds
   pub running : at.stop ≡ None
+  pub silent : at.log.output ≡ []
 
 -- the loop's instructions, where the body begins at word 16,386
 pub record IsLoop (image : LoadedImage) (size : ℕ) : Type 0 where
@@ -66,6 +66,7 @@ quiet_step image word rounds at small safe is =
       base = ap (λ (f : ℕ → ℕ). f 8) next.registers ∙ kept rd value 8 at.registers (keeps_more rd quiet.keeps) ∙ is.base;
       left = ap (λ (f : ℕ → ℕ). f 9) next.registers ∙ kept rd value 9 at.registers quiet.keeps ∙ is.left;
       running = next.stop ∙ quiet.running;
+      silent = next.output ∙ ap (with_byte at.log.output) quiet.silent ∙ is.silent;
     }
 
 same_place : (word other rounds : ℕ) (at : State) → other ≡ word → IsAt word rounds at → IsAt other rounds at
@@ -97,6 +98,7 @@ less_step image size rounds at loop few is =
       base = ap (λ (f : ℕ → ℕ). f 8) next.registers ∙ is.base;
       left = ap (λ (f : ℕ → ℕ). f 9) next.registers ∙ omega (arith, left);
       running = next.stop;
+      silent = next.output ∙ is.silent;
     }
 
 -- while rounds are left the jump back comes next
@@ -113,6 +115,7 @@ pass_step image size rounds at loop is =
       base = ap (λ (f : ℕ → ℕ). f 8) next.registers ∙ is.base;
       left = ap (λ (f : ℕ → ℕ). f 9) next.registers ∙ is.left;
       running = next.stop;
+      silent = next.output ∙ is.silent;
     }
 
 -- after the last round it is passed over
@@ -127,6 +130,7 @@ leave_step image size at loop is =
       base = ap (λ (f : ℕ → ℕ). f 8) next.registers ∙ is.base;
       left = ap (λ (f : ℕ → ℕ). f 9) next.registers ∙ is.left;
       running = next.stop;
+      silent = next.output ∙ is.silent;
     }
 
 back_step : (image : LoadedImage) (size rounds : ℕ) (at : State) → IsLoop image size → IsAt (16388 + size) rounds at
@@ -140,14 +144,17 @@ back_step image size rounds at loop is =
       base = ap (λ (f : ℕ → ℕ). f 8) next.registers ∙ is.base;
       left = ap (λ (f : ℕ → ℕ). f 9) next.registers ∙ is.left;
       running = next.stop;
+      silent = next.output ∙ is.silent;
     }
 
 -- to the test behind the body
 tested : (image : LoadedImage) (size rounds n m : ℕ) (at : State) → IsLoop image size → rounds < 2 ^ 31 → m ≡ n + size + 1
     → IsAt 16386 (suc rounds) (after image n at) → IsAt (16387 + size) rounds (after image m at)
 tested image size rounds n m at loop few e is =
-    let behind : IsAt (16386 + size) (suc rounds) (after image (n + size) at) = body image size (suc rounds) n at loop is size (n + size) (omega arith) refl in
-    moved image (IsAt (16387 + size) rounds) at (n + size) m e behind.running (less_step image size rounds (after image (n + size) at) loop few behind)
+    let behind : IsAt (16386 + size) (suc rounds) (after image (n + size) at) =
+    body image size (suc rounds) n at loop is size (n + size) (omega arith) refl in
+    moved image (IsAt (16387 + size) rounds) at (n + size) m e behind.running
+    (less_step image size rounds (after image (n + size) at) loop few behind)
 
 -- a round that isn't the last
 pub round : (image : LoadedImage) (size rounds n m : ℕ) (at : State) → IsLoop image size → rounds < 2 ^ 30 → m ≡ n + size + 3
@@ -156,8 +163,10 @@ round image size rounds n m at loop few e is =
     let k : ℕ = n + size + 1 in
     let test : IsAt (16387 + size) (suc rounds) (after image k at) = tested image size (suc rounds) n k at loop (omega arith) refl is in
     let passed : IsAt (16388 + size) (suc rounds) (after image (k + 1) at) =
-    moved image (IsAt (16388 + size) (suc rounds)) at k (k + 1) refl test.running (pass_step image size rounds (after image k at) loop test) in
-    moved image (IsAt 16386 (suc rounds)) at (k + 1) m (omega arith) passed.running (back_step image size (suc rounds) (after image (k + 1) at) loop passed)
+    moved image (IsAt (16388 + size) (suc rounds)) at k (k + 1) refl test.running
+    (pass_step image size rounds (after image k at) loop test) in
+    moved image (IsAt 16386 (suc rounds)) at (k + 1) m (omega arith) passed.running
+    (back_step image size (suc rounds) (after image (k + 1) at) loop passed)
 
 pub last_round : (image : LoadedImage) (size n m : ℕ) (at : State) → IsLoop image size → m ≡ n + size + 2
     → IsAt 16386 1 (after image n at) → IsAt (16389 + size) 0 (after image m at)

@@ -56,7 +56,8 @@ fn text_part(alloc: Global, number: u64, size: u32) -> Result<Vec<u8>, AllocErro
     Ok(text)
 }
 
-/// The file of the program of a number and a size: a loop of `size` random instructions that runs four times.
+/// The file of the program of a number and a size: a loop of `size` random instructions that runs four times. Loaded into a RAM of 1 to 16 MiB
+/// it runs `4 * size + 17` instructions, puts one byte, and ends with that byte as its status.
 #[tactic(auto, unfolding(crate::specs::Program::generated, crate::specs::Program::is_bad_size), using(crate::proofs::Sizes::sizes))]
 pub fn generate(alloc: Global, number: u64, size: u32) -> Result<Vec<u8>, GenError>
     ensures file { IfOk result (λ v. v.items ≡ generated number size) }

@@ -1,4 +1,4 @@
-//! Makes large valid programs from a number: each ends, and how many instructions it runs is known.
+//! Makes large valid programs from a number: each puts one byte and ends with it, after `4 * size + 17` instructions.
 //!
 //! `program` has the instructions of a generated program, and `generate` writes its file.
 #![tactic(auto)]
