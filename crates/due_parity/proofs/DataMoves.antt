@@ -19,30 +19,9 @@ use Rattle.wb_cache.proofs.Hits.{read-hit, written-hit}
 use Rattle.wb_cache.proofs.Ram.{length-line_bytes}
 use Rattle.wb_cache.proofs.Sizes.{set_below, slot_below}
 use Rattle.wb_cache.proofs.Victims.{victim-below}
+use Rattle.clean_lines.proofs.DataMoves.{with_byte}
 use Rattle.clean_lines.proofs.Lists.{put_word-off, put_word-on, range-off, replace-off, replace-on}
 use Rattle.clean_lines.proofs.OtherBytes.{found-other, way_for-other}
-
--- the contents with byte `byte` of slot l set
-abbrev pub with_byte : Contents → ℕ → ℕ → ℕ → Contents
-with_byte c l byte x = record c { bytes = slice_set c.bytes (16 * l + byte) x }
-
--- the other bytes of the slots are the same
-pub byte-off : (c : Contents) (l byte x set way o : ℕ) → byte < 16 → (slot_of c.shape set way ≡ l → o ≡ byte → ⊥)
-    → (slots (with_byte c l byte x) set way).bytes o ≡ (slots c set way).bytes o
-unfolding slots slot_at
-byte-off c l byte x set way o h off = go (nat_lt set c.shape.sets && nat_lt way c.shape.ways)
-  where
-    inner : (b : Bool) → nat_lt o 16 ≡ b
-        → cond b (get_or (slice_set c.bytes (16 * l + byte) x) (16 * slot_of c.shape set way + o) 0) 0
-        ≡ cond b (get_or c.bytes (16 * slot_of c.shape set way + o) 0) 0
-    inner true e = get_or-set_other c.bytes (16 * l + byte) (16 * slot_of c.shape set way + o) x 0
-        (λ same. let m : o < 16 = grind (arith, nat_tests) in off (omega arith) (omega arith))
-    inner false e = refl
-
-    go : (b : Bool)
-        → (cond b (slot_at (with_byte c l byte x) (slot_of c.shape set way)) no_slot).bytes o ≡ (cond b (slot_at c (slot_of c.shape set way)) no_slot).bytes o
-    go true = unfold slot_at in inner (nat_lt o 16) refl
-    go false = refl
 
 module _ (image : LoadedImage) (memory : List ℕ) (c : Contents) (l byte x : ℕ) (is : IsImage image) (long : length memory ≡ length image.ram)
     (sized : IsSized c)

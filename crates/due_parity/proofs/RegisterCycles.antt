@@ -21,20 +21,10 @@ use Rattle.clean_lines.specs.CleanCycle.{SameCycle}
 use Rattle.due_parity.specs.StruckCycles.{StruckCycleBy}
 use Rattle.due_parity.specs.Touches.{entry_taken, op_names, op_taken, register_touch, register_touch_by}
 use Rattle.due_parity.specs.declared.touch.Touch.TheVariants.{Untouched, ReadOut, Renewed}
+use Rattle.due_parity.proofs.Guards.{differ, either-first, either-second}
 
 abbrev register_place : ℕ → Place
 register_place k = record { structure = Rf; bit = k }
-
-differ : (m n : ℕ) → (m == n) ≡ false → m ≢ n
-differ m n h p = let e : (m == n) ≡ true = eq-eqb m n p in cc
-
-either-first : (a b : Bool) → (a || b) ≡ false → a ≡ false
-either-first false b h = refl
-either-first true b h = absurd cc
-
-either-second : (a b : Bool) → (a || b) ≡ false → b ≡ false
-either-second false b h = h
-either-second true b h = absurd cc
 
 -- element i of the file is register i + 1
 module _ (w : ResultLatch) (registers : List ℕ) (i y : ℕ) where
