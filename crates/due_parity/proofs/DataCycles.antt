@@ -30,7 +30,7 @@ use Rattle.cyc_machine.proofs.Tells.{Tells, tells}
 use Rattle.clean_lines.specs.CleanCycle.{SameCycle}
 use Rattle.due_parity.specs.StruckCycles.{StruckCycleBy}
 use Rattle.due_parity.specs.Touches.{byte_touch, byte_touch_by, byte_touch_with, is_dirty_slot}
-use Rattle.due_parity.specs.declared.touch.Touch.TheVariants.{Untouched, ReadOut, Renewed}
+use Rattle.due_parity.specs.declared.touch.Touch.TheVariants.{Untouched, Renewed}
 use Rattle.clean_lines.proofs.BytesRead.{ReadsAlike, served-alike}
 use Rattle.clean_lines.proofs.DataMoves.{byte-off, with_byte}
 use Rattle.due_parity.proofs.Guards.{both-fail, both-hold, differ}

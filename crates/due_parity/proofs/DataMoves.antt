@@ -1,17 +1,15 @@
 -- A byte of a line slot is another one: what a move of the port makes of the cache, and that main memory is the same unless the slot is
 -- written back.
-use Rattle.std.proofs.Common.{◌≡◌, ◌≢◌, ◌⊎◌, inl, inr, ℕ, ◌+◌, ◌*◌, ◌/◌, ◌%◌, ◌<◌, ◌≤◌, Bool, true, false, cond, List, length, get_or, refl, sym, ◌∙◌}
+use Rattle.std.proofs.Common.{◌≡◌, ◌≢◌, ◌⊎◌, inl, inr, ℕ, ◌+◌, ◌*◌, ◌/◌, ◌%◌, ◌<◌, ◌≤◌, Bool, true, false, cond, List, length, refl, sym, ◌∙◌}
 use Rattle.std.proofs.Common.{ap, arith}
-use Rattle.std.specs.Prelude.{Some, ◌&&◌, nat_lt, slice_index, slice_index_or, slice_set}
+use Rattle.std.specs.Prelude.{Some, ◌&&◌, slice_index, slice_index_or, slice_set}
 use Rattle.std.specs.List.{replace_range}
 use Rattle.std.proofs.lemmas.Bool.{cases_eq, cases_lt}
-use Rattle.std.proofs.lemmas.Bool.Decides.{nat_tests}
-use Rattle.std.proofs.lemmas.List.{get_or-set_other}
 use Rattle.bit_field.specs.Lanes.{has_lane}
 use Rattle.bit_field.specs.Shapes.{slots as slot_count}
 use Rattle.elf_load.specs.Image.{LoadedImage, IsImage}
 use Rattle.wb_cache.specs.Access.{found, put, put_word, read, written as written_word}
-use Rattle.wb_cache.specs.Contents.{Contents, IsSized, no_slot, slot_at, slot_of, slots}
+use Rattle.wb_cache.specs.Contents.{Contents, IsSized, slot_of, slots}
 use Rattle.wb_cache.specs.Lookup.{line_of, set_of}
 use Rattle.wb_cache.specs.Refill.{filled, line_bytes, memory_refilled, put_line, refilled, way_for, written_back}
 use Rattle.wb_cache.proofs.Calls.{length-after_refill}

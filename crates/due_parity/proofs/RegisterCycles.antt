@@ -1,12 +1,11 @@
 -- The cycle from a state with a struck bit of the register file.
 use Rattle.std.proofs.Common.{◌≡◌, ◌≢◌, ◌⊎◌, inl, inr, ℕ, ◌+◌, ◌-◌, ◌/◌, ◌%◌, Bool, true, false, List, refl, sym, ◌∙◌, ap, arith}
-use Rattle.std.specs.Prelude.{Option, Some, None, ◌==◌, ◌||◌, slice_get, slice_index, slice_index_or, slice_set, if◌then◌else◌}
-use Rattle.std.proofs.lemmas.Bool.{cases_eq, eqb-true, eq-eqb}
+use Rattle.std.specs.Prelude.{Option, Some, None, ◌==◌, slice_get, slice_index, slice_index_or, slice_set, if◌then◌else◌}
+use Rattle.std.proofs.lemmas.Bool.{eqb-true}
 use Rattle.std.proofs.lemmas.List.{get_or-set_other, set-set, set_comm}
 use Rattle.bit_field.specs.declared.places.Place.{Place}
 use Rattle.bit_field.specs.declared.places.Structure.TheVariants.{Rf}
 use Rattle.bit_field.specs.Layouts.{flip}
-use Rattle.rv_table.specs.declared.op.Op.{Op}
 use Rattle.pipe_latch.specs.Latches.{DecodedLatch, ResultLatch}
 use Rattle.pipe_latch.specs.Forwarding.{late}
 use Rattle.inst_buf.specs.Buffer.{entries}
@@ -19,7 +18,7 @@ use Rattle.cyc_machine.specs.declared.fate.Fate.{Fate}
 use Rattle.cyc_machine.specs.declared.fate.Fate.TheVariants.{Absent, Dropped, Stays, Goes}
 use Rattle.clean_lines.specs.CleanCycle.{SameCycle}
 use Rattle.due_parity.specs.StruckCycles.{StruckCycleBy}
-use Rattle.due_parity.specs.Touches.{entry_taken, op_names, op_taken, register_touch, register_touch_by}
+use Rattle.due_parity.specs.Touches.{entry_taken, op_names, op_taken, register_touch}
 use Rattle.due_parity.specs.declared.touch.Touch.TheVariants.{Untouched, ReadOut, Renewed}
 use Rattle.due_parity.proofs.Guards.{differ, either-first, either-second}
 
