@@ -2,7 +2,7 @@
 use Rattle.std.proofs.Common.{◌≡◌, ℕ, ◌+◌, ◌*◌, ◌/◌, ◌%◌, ◌^◌, ◌<◌, Bool, true, false, List, length, refl, sym, ◌∙◌, ap, arith, subst}
 use Rattle.std.specs.Prelude.{Option, ◌==◌, ◌&&◌, bit_xor, slice_index_or, slice_set, if◌then◌else◌}
 use Rattle.std.specs.List.{All}
-use Rattle.std.proofs.lemmas.Bool.{eqb-true, eq-eqb}
+use Rattle.std.proofs.lemmas.Bool.{eqb-true}
 use Rattle.std.proofs.lemmas.List.{get_or-set_same, set-get_or}
 use Rattle.std.proofs.lemmas.List.Elements.{All-set}
 use Rattle.bit_field.proofs.Bits.{flip_below}
@@ -30,50 +30,20 @@ use Rattle.cyc_machine.proofs.Tells.{Tells, tells}
 use Rattle.clean_lines.specs.CleanCycle.{SameCycle}
 use Rattle.due_parity.specs.StruckCycles.{StruckCycleBy}
 use Rattle.due_parity.specs.Touches.{byte_touch, byte_touch_by, byte_touch_with, is_dirty_slot}
-use Rattle.due_parity.specs.declared.touch.Touch.TheVariants.{Untouched, ReadOut, Renewed}
+use Rattle.due_parity.specs.declared.touch.Touch.TheVariants.{Untouched, Renewed}
 use Rattle.clean_lines.proofs.BytesRead.{ReadsAlike, served-alike}
-use Rattle.due_parity.proofs.DataMoves.{byte-off, memory-kept, read-kept, refilled-gone, refilled-kept, with_byte, written-gone, written-kept}
+use Rattle.clean_lines.proofs.DataMoves.{byte-off, with_byte}
+use Rattle.due_parity.proofs.Guards.{both-fail, both-hold, differ}
+use Rattle.due_parity.proofs.DataMoves.{memory-kept, read-kept, refilled-gone, refilled-kept, written-gone, written-kept}
 use Rattle.clean_lines.proofs.OtherBytes.{found-other, move-other}
 use Rattle.clean_lines.proofs.OtherCache.{cycle-other, same-other}
 
--- the lanes of a word of a slot that is another one, or of another word, or that don't name the byte
-off-lanes : (slot l word byte mask lane : ℕ) → (slot == l && (word == byte / 4 && has_lane mask (byte % 4))) ≡ false → lane < 4
+-- a lane that an access names isn't the byte, where the access doesn't hold the byte
+off-lane : (slot l word byte mask lane : ℕ) → (slot ≡ l → word ≡ byte / 4 → has_lane mask (byte % 4) ≡ true → ⊥) → lane < 4
     → has_lane mask lane ≡ true → slot ≡ l → 4 * word + lane ≡ byte → ⊥
-off-lanes slot l word byte mask lane off m on p q =
+off-lane slot l word byte mask lane off m on p q =
     let at : lane ≡ byte % 4 = omega arith in
-    let named : has_lane mask (byte % 4) ≡ true = ap (has_lane mask) (sym at) ∙ on in
-    let here : (slot == l) ≡ true = eq-eqb slot l p in
-    let same : (word == byte / 4) ≡ true = eq-eqb word (byte / 4) (omega arith) in
-    clash (slot == l) (word == byte / 4) (has_lane mask (byte % 4)) here same named off
-  where
-    clash : (a b c : Bool) → a ≡ true → b ≡ true → c ≡ true → (a && (b && c)) ≡ false → ⊥
-    clash true true true p q r e = cc
-    clash false b c p q r e = cc
-    clash true false c p q r e = cc
-    clash true true false p q r e = cc
-
-both-second : (a b : Bool) → (a && b) ≡ true → b ≡ true
-both-second true b h = h
-both-second false b h = absurd cc
-
-both-first : (m n : ℕ) (b : Bool) → (m == n && b) ≡ true → m ≡ n
-both-first m n b h = eqb-true m n (first (m == n) h)
-  where
-    first : (a : Bool) → (a && b) ≡ true → a ≡ true
-    first true h = refl
-    first false h = absurd cc
-
-both-not : (m n : ℕ) (b : Bool) → (m == n && b) ≡ false → m ≡ n → b ≡ true → ⊥
-both-not m n b h p q = clash (m == n) b (eq-eqb m n p) q h
-  where
-    clash : (a b : Bool) → a ≡ true → b ≡ true → (a && b) ≡ false → ⊥
-    clash true true p q h = cc
-    clash false b p q h = cc
-    clash true false p q h = cc
-
--- slots of different numbers
-other-slot : (m n : ℕ) → (m == n) ≡ false → m ≡ n → ⊥
-other-slot m n h p = let e : (m == n) ≡ true = eq-eqb m n p in cc
+    off p (omega arith) (ap (has_lane mask) (sym at) ∙ on)
 
 abbrev data_place : ℕ → Place
 data_place k = record { structure = CData; bit = k }
@@ -205,11 +175,15 @@ module _ (s : State) (k : ℕ) (is : IsSteady s) (below : k < slot_count s.cache
 
   -- a read
   read-by : (word way : ℕ) → move s ≡ Reads word way → Tells c load store (Reads word way) → Told (Reads word way)
-  read-by word way e t = go (slot_of c.shape (set_of c.shape (word / 4)) way == l)
-      (word % 4 == byte / 4 && has_lane (lanes_of (action_in_m s)) (byte % 4)) refl
+  read-by word way e t = go (slot == l) (word % 4 == byte / 4 && has_lane lanes (byte % 4)) refl refl
     where
-      keeps : (slot_of c.shape (set_of c.shape (word / 4)) way == l && (word % 4 == byte / 4 && has_lane (lanes_of (action_in_m s)) (byte % 4))) ≡ false
-          → Keeps (Reads word way)
+      slot : ℕ
+      slot = slot_of c.shape (set_of c.shape (word / 4)) way
+
+      lanes : ℕ
+      lanes = lanes_of (action_in_m s)
+
+      keeps : (slot ≡ l → word % 4 ≡ byte / 4 → has_lane lanes (byte % 4) ≡ true → ⊥) → Keeps (Reads word way)
       keeps off = unfold cache_after in unfold memory_after in record {
         cache = λ y. read-kept s.image s.memory c l byte y is.image is.memory is.cache slot-below (omega arith) (word / 4) way t.1;
         memory = refl;
@@ -218,17 +192,16 @@ module _ (s : State) (k : ℕ) (is : IsSteady s) (below : k < slot_count s.cache
           t.1,
           refl,
           λ lane m on. byte-off c l byte x (set_of c.shape (word / 4)) way (4 * (word % 4) + lane) (omega arith)
-              (λ p q. off-lanes (slot_of c.shape (set_of c.shape (word / 4)) way) l (word % 4) byte (lanes_of (action_in_m s)) lane off m on p q),
+              (λ p q. off-lane slot l (word % 4) byte lanes lane off m on p q),
         );
       }
 
-      go : (a h : Bool)
-          → (slot_of c.shape (set_of c.shape (word / 4)) way == l && (word % 4 == byte / 4 && has_lane (lanes_of (action_in_m s)) (byte % 4))) ≡ (a && h)
+      go : (a h : Bool) → (slot == l) ≡ a → (word % 4 == byte / 4 && has_lane lanes (byte % 4)) ≡ h
           → StruckCycleBy s (data_place k) (if a then byte_touch_by Read h dirty else Untouched)
-      go true true off = tt
-      go true false off = stays (Reads word way) e (keeps off)
-      go false true off = stays (Reads word way) e (keeps off)
-      go false false off = stays (Reads word way) e (keeps off)
+      go true true p q = tt
+      go true false p q = stays (Reads word way) e (keeps (λ a b r. both-fail (word % 4) (byte / 4) (has_lane lanes (byte % 4)) q b r))
+      go false true p q = stays (Reads word way) e (keeps (λ a b r. differ slot l p a))
+      go false false p q = stays (Reads word way) e (keeps (λ a b r. differ slot l p a))
 
   -- a miss
   miss-by : (m way count : ℕ) (owner : Bool) → move s ≡ Misses m way count owner → Told (Misses m way count owner)
@@ -263,12 +236,12 @@ module _ (s : State) (k : ℕ) (is : IsSteady s) (below : k < slot_count s.cache
 
       go : (a h : Bool) → (slot == l) ≡ a → (w.addr % 4 == byte / 4 && has_lane w.mask (byte % 4)) ≡ h
           → StruckCycleBy s (data_place k) (if a then byte_touch_by Write h dirty else Untouched)
-      go true true p q = ends (Drains w way) e
-          (settles (eqb-true slot l p) (both-first (w.addr % 4) (byte / 4) (has_lane w.mask (byte % 4)) q)
-          (both-second (w.addr % 4 == byte / 4) (has_lane w.mask (byte % 4)) q))
-      go true false p q = stays (Drains w way) e (keeps (λ a b r. both-not (w.addr % 4) (byte / 4) (has_lane w.mask (byte % 4)) q b r))
-      go false true p q = stays (Drains w way) e (keeps (λ a b r. other-slot slot l p a))
-      go false false p q = stays (Drains w way) e (keeps (λ a b r. other-slot slot l p a))
+      go true true p q =
+          let both = both-hold (w.addr % 4) (byte / 4) (has_lane w.mask (byte % 4)) q in
+          ends (Drains w way) e (settles (eqb-true slot l p) both.0 both.1)
+      go true false p q = stays (Drains w way) e (keeps (λ a b r. both-fail (w.addr % 4) (byte / 4) (has_lane w.mask (byte % 4)) q b r))
+      go false true p q = stays (Drains w way) e (keeps (λ a b r. differ slot l p a))
+      go false false p q = stays (Drains w way) e (keeps (λ a b r. differ slot l p a))
 
   -- a refill
   fill-by : (m way : ℕ) → move s ≡ Fills m way → Tells c load store (Fills m way) → Told (Fills m way)
@@ -296,7 +269,7 @@ module _ (s : State) (k : ℕ) (is : IsSteady s) (below : k < slot_count s.cache
           → StruckCycleBy s (data_place k) (if a then byte_touch_by Fill (0 == byte / 4 && has_lane 0 (byte % 4)) b else Untouched)
       go true true p q = tt
       go true false p q = ends (Fills m way) e (settles (sym at ∙ eqb-true (slot_of c.shape (set_of c.shape m) way) l p) q)
-      go false b p q = stays (Fills m way) e (keeps (λ r. other-slot (slot_of c.shape (set_of c.shape m) way) l p (at ∙ r)))
+      go false b p q = stays (Fills m way) e (keeps (λ r. differ (slot_of c.shape (set_of c.shape m) way) l p (at ∙ r)))
 
   by-move : (v : Move) → move s ≡ v → Tells c load store v → Told v
   by-move Rests e t = stays Rests e still.0

@@ -1,17 +1,15 @@
 -- A byte of a line slot is another one: what a move of the port makes of the cache, and that main memory is the same unless the slot is
 -- written back.
-use Rattle.std.proofs.Common.{◌≡◌, ◌≢◌, ◌⊎◌, inl, inr, ℕ, ◌+◌, ◌*◌, ◌/◌, ◌%◌, ◌<◌, ◌≤◌, Bool, true, false, cond, List, length, get_or, refl, sym, ◌∙◌}
+use Rattle.std.proofs.Common.{◌≡◌, ◌≢◌, ◌⊎◌, inl, inr, ℕ, ◌+◌, ◌*◌, ◌/◌, ◌%◌, ◌<◌, ◌≤◌, Bool, true, false, cond, List, length, refl, sym, ◌∙◌}
 use Rattle.std.proofs.Common.{ap, arith}
-use Rattle.std.specs.Prelude.{Some, ◌&&◌, nat_lt, slice_index, slice_index_or, slice_set}
+use Rattle.std.specs.Prelude.{Some, ◌&&◌, slice_index, slice_index_or, slice_set}
 use Rattle.std.specs.List.{replace_range}
 use Rattle.std.proofs.lemmas.Bool.{cases_eq, cases_lt}
-use Rattle.std.proofs.lemmas.Bool.Decides.{nat_tests}
-use Rattle.std.proofs.lemmas.List.{get_or-set_other}
 use Rattle.bit_field.specs.Lanes.{has_lane}
 use Rattle.bit_field.specs.Shapes.{slots as slot_count}
 use Rattle.elf_load.specs.Image.{LoadedImage, IsImage}
 use Rattle.wb_cache.specs.Access.{found, put, put_word, read, written as written_word}
-use Rattle.wb_cache.specs.Contents.{Contents, IsSized, no_slot, slot_at, slot_of, slots}
+use Rattle.wb_cache.specs.Contents.{Contents, IsSized, slot_of, slots}
 use Rattle.wb_cache.specs.Lookup.{line_of, set_of}
 use Rattle.wb_cache.specs.Refill.{filled, line_bytes, memory_refilled, put_line, refilled, way_for, written_back}
 use Rattle.wb_cache.proofs.Calls.{length-after_refill}
@@ -19,30 +17,9 @@ use Rattle.wb_cache.proofs.Hits.{read-hit, written-hit}
 use Rattle.wb_cache.proofs.Ram.{length-line_bytes}
 use Rattle.wb_cache.proofs.Sizes.{set_below, slot_below}
 use Rattle.wb_cache.proofs.Victims.{victim-below}
+use Rattle.clean_lines.proofs.DataMoves.{with_byte}
 use Rattle.clean_lines.proofs.Lists.{put_word-off, put_word-on, range-off, replace-off, replace-on}
 use Rattle.clean_lines.proofs.OtherBytes.{found-other, way_for-other}
-
--- the contents with byte `byte` of slot l set
-abbrev pub with_byte : Contents → ℕ → ℕ → ℕ → Contents
-with_byte c l byte x = record c { bytes = slice_set c.bytes (16 * l + byte) x }
-
--- the other bytes of the slots are the same
-pub byte-off : (c : Contents) (l byte x set way o : ℕ) → byte < 16 → (slot_of c.shape set way ≡ l → o ≡ byte → ⊥)
-    → (slots (with_byte c l byte x) set way).bytes o ≡ (slots c set way).bytes o
-unfolding slots slot_at
-byte-off c l byte x set way o h off = go (nat_lt set c.shape.sets && nat_lt way c.shape.ways)
-  where
-    inner : (b : Bool) → nat_lt o 16 ≡ b
-        → cond b (get_or (slice_set c.bytes (16 * l + byte) x) (16 * slot_of c.shape set way + o) 0) 0
-        ≡ cond b (get_or c.bytes (16 * slot_of c.shape set way + o) 0) 0
-    inner true e = get_or-set_other c.bytes (16 * l + byte) (16 * slot_of c.shape set way + o) x 0
-        (λ same. let m : o < 16 = grind (arith, nat_tests) in off (omega arith) (omega arith))
-    inner false e = refl
-
-    go : (b : Bool)
-        → (cond b (slot_at (with_byte c l byte x) (slot_of c.shape set way)) no_slot).bytes o ≡ (cond b (slot_at c (slot_of c.shape set way)) no_slot).bytes o
-    go true = unfold slot_at in inner (nat_lt o 16) refl
-    go false = refl
 
 module _ (image : LoadedImage) (memory : List ℕ) (c : Contents) (l byte x : ℕ) (is : IsImage image) (long : length memory ≡ length image.ram)
     (sized : IsSized c)

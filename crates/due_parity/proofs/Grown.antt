@@ -1,16 +1,14 @@
 -- How rows of notes grow in a cycle.
-use Rattle.std.proofs.Common.{◌≡◌, ℕ, suc, ◌+◌, ◌-◌, ◌*◌, ◌/◌, ◌%◌, ◌<◌, ◌≤◌, Bool, true, false, List, [], length, refl, sym, ◌∙◌, ap, arith, subst}
-use Rattle.std.specs.Prelude.{Option, Some, None, ◌==◌, ◌&&◌, nat_le, nat_lt, slice_index_or, if◌then◌else◌}
+use Rattle.std.proofs.Common.{◌≡◌, ℕ, ◌+◌, ◌-◌, ◌*◌, ◌/◌, ◌%◌, ◌<◌, ◌≤◌, Bool, true, false, List, [], refl, sym, ◌∙◌, ap, arith}
+use Rattle.std.specs.Prelude.{Some, None, ◌==◌, ◌&&◌, nat_le, nat_lt, slice_index_or, if◌then◌else◌}
 use Rattle.std.proofs.lemmas.Bool.Decides.{nat_tests}
 use Rattle.bit_field.specs.declared.shapes.Shape.{Shape}
 use Rattle.wb_cache.specs.Contents.{slot_of}
 use Rattle.wb_cache.specs.declared.event.CacheEvent.{CacheEvent}
-use Rattle.event_log.specs.Events.{holds_byte}
 use Rattle.slot_history.specs.Histories.{Histories, held_in}
 use Rattle.cyc_machine.specs.Run.{with_one}
 use Rattle.due_parity.specs.Notes.{noted}
 use Rattle.due_parity.specs.Rows.{IsNotedIn, event_touch, is_dirty, slot_touch}
-use Rattle.due_parity.specs.Touches.{byte_touch_by}
 use Rattle.due_parity.specs.declared.touch.Touch.{Touch}
 use Rattle.due_parity.specs.declared.touch.Touch.TheVariants.{Untouched}
 use Rattle.due_parity.specs.declared.watched.Noted.{Noted}

@@ -1,7 +1,5 @@
 -- A bit has one class in a cycle.
-use Rattle.std.proofs.Common.{◌≡◌, ℕ, ◌≤◌, refl, sym, ap, ◌∙◌, inl, inr}
-use Rattle.std.specs.Prelude.{Bool, true, false, if◌then◌else◌}
-use Rattle.std.proofs.Common.{arith}
+use Rattle.std.proofs.Common.{◌≡◌, refl, inl, inr}
 use Rattle.std.proofs.lemmas.Bool.{cases_order}
 use Rattle.bit_field.specs.declared.places.Place.{Place}
 use Rattle.ace_class.specs.Classes.{number_of}
@@ -21,7 +19,3 @@ one_class a p (UnAce rule) (UnAce other) h k =
       | inr (inl before) ↦ absurd (k.1 rule before h.0)
       | inr (inr behind) ↦ absurd (h.1 other behind k.0)
     ]
-
-pub added-most : (b : Bool) (n added : ℕ) → added ≡ (if b then n else 0) → added ≤ n
-added-most true n added e = omega (arith, e)
-added-most false n added e = omega (arith, e)

@@ -1,5 +1,5 @@
 -- The counts of a bit up to the touches that were passed.
-use Rattle.std.proofs.Common.{◌≡◌, ℕ, ◌+◌, ◌-◌, ◌<◌, ◌≤◌, ◌⊎◌, inl, inr, Bool, true, false, List, length, get_or, refl, sym, ◌∙◌, ap, arith, subst}
+use Rattle.std.proofs.Common.{◌≡◌, ℕ, ◌+◌, ◌<◌, ◌≤◌, inl, inr, Bool, true, false, List, length, get_or, refl, sym, ◌∙◌, ap, arith}
 use Rattle.std.specs.Prelude.{not, if◌then◌else◌}
 use Rattle.std.proofs.lemmas.Bool.{cases_lt}
 use Rattle.std.proofs.lemmas.List.{get_or_default}
@@ -10,7 +10,6 @@ use Rattle.due_parity.specs.Fates.{fate, touch_at}
 use Rattle.due_parity.specs.Notes.{IsRising, fate_in, fate_of, noted_below}
 use Rattle.due_parity.specs.Stretches.{AreDetected, CountsCycles, all_of, no_pairs, plus}
 use Rattle.due_parity.specs.declared.counting.DueCounts.{DueCounts}
-use Rattle.due_parity.specs.declared.fate.Fate.{Fate}
 use Rattle.due_parity.specs.declared.fate.Fate.TheVariants.{Detected, Quiet}
 use Rattle.due_parity.specs.declared.watched.Noted.{Noted}
 use Rattle.due_parity.proofs.Decided.{below, fate-at, fate-past, rising, tabled}

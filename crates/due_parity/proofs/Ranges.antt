@@ -94,3 +94,7 @@ count-joined {A} a b c f g test l m =
 pub sum-more : (n : ℕ) (f : ℕ → ℕ) → sum_from 0 (n + 1) f ≡ sum_from 0 n f + f n
 unfolding sum_from
 sum-more n f = let all = sum-split n 1 (n + 1) 0 n f refl (omega arith) in omega (arith, all)
+
+pub added-most : (b : Bool) (n added : ℕ) → added ≡ (if b then n else 0) → added ≤ n
+added-most true n added e = omega (arith, e)
+added-most false n added e = omega (arith, e)

@@ -1,12 +1,11 @@
 -- The cycle from a state with a struck bit of the register file.
 use Rattle.std.proofs.Common.{◌≡◌, ◌≢◌, ◌⊎◌, inl, inr, ℕ, ◌+◌, ◌-◌, ◌/◌, ◌%◌, Bool, true, false, List, refl, sym, ◌∙◌, ap, arith}
-use Rattle.std.specs.Prelude.{Option, Some, None, ◌==◌, ◌||◌, slice_get, slice_index, slice_index_or, slice_set, if◌then◌else◌}
-use Rattle.std.proofs.lemmas.Bool.{cases_eq, eqb-true, eq-eqb}
+use Rattle.std.specs.Prelude.{Option, Some, None, ◌==◌, slice_get, slice_index, slice_index_or, slice_set, if◌then◌else◌}
+use Rattle.std.proofs.lemmas.Bool.{eqb-true}
 use Rattle.std.proofs.lemmas.List.{get_or-set_other, set-set, set_comm}
 use Rattle.bit_field.specs.declared.places.Place.{Place}
 use Rattle.bit_field.specs.declared.places.Structure.TheVariants.{Rf}
 use Rattle.bit_field.specs.Layouts.{flip}
-use Rattle.rv_table.specs.declared.op.Op.{Op}
 use Rattle.pipe_latch.specs.Latches.{DecodedLatch, ResultLatch}
 use Rattle.pipe_latch.specs.Forwarding.{late}
 use Rattle.inst_buf.specs.Buffer.{entries}
@@ -19,22 +18,12 @@ use Rattle.cyc_machine.specs.declared.fate.Fate.{Fate}
 use Rattle.cyc_machine.specs.declared.fate.Fate.TheVariants.{Absent, Dropped, Stays, Goes}
 use Rattle.clean_lines.specs.CleanCycle.{SameCycle}
 use Rattle.due_parity.specs.StruckCycles.{StruckCycleBy}
-use Rattle.due_parity.specs.Touches.{entry_taken, op_names, op_taken, register_touch, register_touch_by}
+use Rattle.due_parity.specs.Touches.{entry_taken, op_names, op_taken, register_touch}
 use Rattle.due_parity.specs.declared.touch.Touch.TheVariants.{Untouched, ReadOut, Renewed}
+use Rattle.due_parity.proofs.Guards.{differ, either-first, either-second}
 
 abbrev register_place : ℕ → Place
 register_place k = record { structure = Rf; bit = k }
-
-differ : (m n : ℕ) → (m == n) ≡ false → m ≢ n
-differ m n h p = let e : (m == n) ≡ true = eq-eqb m n p in cc
-
-either-first : (a b : Bool) → (a || b) ≡ false → a ≡ false
-either-first false b h = refl
-either-first true b h = absurd cc
-
-either-second : (a b : Bool) → (a || b) ≡ false → b ≡ false
-either-second false b h = h
-either-second true b h = absurd cc
 
 -- element i of the file is register i + 1
 module _ (w : ResultLatch) (registers : List ℕ) (i y : ℕ) where

@@ -17,7 +17,7 @@ use Rattle.clean_lines.specs.CleanRun.{SameCycles}
 use Rattle.due_parity.specs.StruckCycles.{EachObeysParity, FirstTouch, IsMended, ParityLaw, StaysFlipped, StruckCycleBy, UntouchedFor}
 use Rattle.due_parity.specs.Touches.{IsProtected, byte_touch, group_touch, touch}
 use Rattle.due_parity.specs.declared.touch.Touch.{Touch}
-use Rattle.due_parity.specs.declared.touch.Touch.TheVariants.{Untouched, ReadOut, Renewed}
+use Rattle.due_parity.specs.declared.touch.Touch.TheVariants.{Untouched, Renewed}
 use Rattle.due_parity.proofs.DataCycles.{data-cycle}
 use Rattle.due_parity.proofs.RegisterCycles.{register-cycle}
 

@@ -1,11 +1,10 @@
 -- What a fate says of the flipped run.
-use Rattle.std.proofs.Common.{◌≡◌, ◌≤◌, ◌<◌, ◌+◌, ◌-◌, ◌*◌, ◌++◌, ℕ, zero, suc, List, arith, refl, ap, sym, subst, ◌∙◌}
+use Rattle.std.proofs.Common.{◌≡◌, ◌≤◌, ◌<◌, ◌+◌, ◌-◌, ◌*◌, ◌++◌, ℕ, suc, List, arith, ap, sym, subst, ◌∙◌}
 use Rattle.bit_field.specs.Shapes.{IsPlaceIn}
 use Rattle.bit_field.specs.declared.places.Place.{Place}
 use Rattle.bit_field.specs.declared.shapes.Shape.{Shape}
 use Rattle.elf_load.specs.Image.{IsImage}
 use Rattle.cyc_machine.specs.Run.{EndsIn, output_after, output_below, state_after, state_at}
-use Rattle.cyc_machine.specs.Sizes.{IsSteady}
 use Rattle.cyc_machine.specs.State.{State, reset}
 use Rattle.cyc_machine.specs.Strikes.{flip_at_place}
 use Rattle.cyc_machine.proofs.RunsOn.{ended-on, output-on, runs-law, state-on}
@@ -16,11 +15,11 @@ use Rattle.run_record.specs.Verdict.{EndsSame, flipped}
 use Rattle.clean_lines.specs.CleanRun.{SameCycles}
 use Rattle.clean_lines.proofs.Law.{clean-law}
 use Rattle.due_parity.specs.Fates.{Says, fate, touch_at}
-use Rattle.due_parity.specs.StruckCycles.{FirstTouch, ParityLaw, UntouchedFor}
+use Rattle.due_parity.specs.StruckCycles.{ParityLaw, UntouchedFor}
 use Rattle.due_parity.specs.Touches.{IsProtected, touch}
 use Rattle.due_parity.specs.declared.fate.Fate.{Fate}
 use Rattle.due_parity.specs.declared.touch.Touch.{Touch}
-use Rattle.due_parity.specs.declared.touch.Touch.TheVariants.{Untouched, ReadOut, Renewed}
+use Rattle.due_parity.specs.declared.touch.Touch.TheVariants.{Untouched, Renewed}
 use Rattle.due_parity.proofs.Decided.{Met, met}
 use Rattle.due_parity.proofs.Decided.Met.{Never, Mended, Read}
 use Rattle.due_parity.proofs.Runs.{each-obeys}

@@ -1,5 +1,5 @@
 -- A table is asked for the row of a bit's group.
-use Rattle.std.proofs.Common.{◌≡◌, ℕ, ◌+◌, ◌*◌, ◌/◌, ◌<◌, ◌≤◌, List, [], length, refl, sym, ◌∙◌, ap, arith, subst}
+use Rattle.std.proofs.Common.{◌≡◌, ℕ, ◌<◌, List, [], length, ◌∙◌, ap, arith}
 use Rattle.std.specs.Prelude.{slice_index_or}
 use Rattle.bit_field.specs.Shapes.{IsPlaceIn, bits_in}
 use Rattle.bit_field.specs.declared.places.Place.{Place}
@@ -8,7 +8,7 @@ use Rattle.bit_field.specs.declared.places.Structure.TheVariants.{Rf, CData}
 use Rattle.bit_field.specs.declared.shapes.Shape.{Shape}
 use Rattle.run_record.specs.Run.{RecordedRun}
 use Rattle.due_parity.specs.Fates.{fate, touch_at}
-use Rattle.due_parity.specs.Notes.{AreNoted, IsTable, Rows, fate_in, group_count, group_touch_at, noted_below, rows_of}
+use Rattle.due_parity.specs.Notes.{AreNoted, IsTable, Rows, fate_in, group_count, noted_below, rows_of}
 use Rattle.due_parity.specs.Touches.{IsProtected, group_of}
 use Rattle.due_parity.specs.declared.watched.Noted.{Noted}
 use Rattle.due_parity.proofs.Decided.{tabled}

@@ -1,5 +1,5 @@
 -- Counts of a structure, bit by bit.
-use Rattle.std.proofs.Common.{◌≡◌, ℕ, ◌+◌, ◌-◌, ◌*◌, ◌<◌, ◌≤◌, ◌⊎◌, inl, inr, Bool, true, false, refl, sym, ◌∙◌, ap, arith, subst}
+use Rattle.std.proofs.Common.{◌≡◌, ℕ, ◌+◌, ◌-◌, ◌*◌, inl, inr, Bool, refl, sym, ◌∙◌, ap, arith, subst}
 use Rattle.std.proofs.lemmas.Bool.{cases_lt}
 use Rattle.bit_field.specs.declared.places.Structure.{Structure}
 use Rattle.ace_class.specs.declared.class.Class.{Class}
@@ -11,7 +11,6 @@ use Rattle.due_parity.specs.Fates.{fate}
 use Rattle.due_parity.specs.Stretches.{CountsCycles, all_of, no_pairs, plus}
 use Rattle.due_parity.specs.declared.counting.DueCounts.{DueCounts}
 use Rattle.due_parity.specs.declared.fate.Fate.{Fate}
-use Rattle.due_parity.specs.declared.fate.Fate.TheVariants.{Detected}
 use Rattle.due_parity.proofs.Ranges.{count-three, pick, pick-behind, pick-below, sum-more, sum-same, sum-three}
 use Rattle.due_parity.proofs.Stretched.{one-fate}
 

@@ -1,6 +1,6 @@
 -- The touches noted up to a cycle.
-use Rattle.std.proofs.Common.{◌≡◌, ◌≤◌, ◌<◌, ◌+◌, ◌*◌, ◌/◌, ◌%◌, ◌^◌, ℕ, zero, suc, Bool, true, false, List, [], length, arith, refl, ap, sym, subst, ◌∙◌}
-use Rattle.std.specs.Prelude.{Option, Some, None, ◌==◌, ◌&&◌, ◌||◌, is_some, nat_le, nat_lt, not, replicate, slice_get, slice_index_or, if◌then◌else◌}
+use Rattle.std.proofs.Common.{◌≡◌, ◌<◌, ◌+◌, ◌*◌, ◌/◌, ◌%◌, ℕ, zero, suc, Bool, true, false, List, [], arith, refl, ap, sym, subst, ◌∙◌}
+use Rattle.std.specs.Prelude.{Option, None, ◌==◌, ◌&&◌, ◌||◌, is_some, nat_le, nat_lt, not, replicate, slice_get, slice_index_or, if◌then◌else◌}
 use Rattle.std.specs.List.{All}
 use Rattle.std.specs.Option.{ForSome}
 use Rattle.std.proofs.lemmas.Bool.Decides.{nat_tests}
@@ -32,8 +32,7 @@ use Rattle.cyc_machine.specs.Pipeline.{fate_of, goes_with, operand_b}
 use Rattle.pipe_latch.specs.Forwarding.{operand}
 use Rattle.cyc_machine.specs.Run.{events_below, state_after, state_at}
 use Rattle.cyc_machine.specs.State.{State, reset}
-use Rattle.cyc_machine.specs.declared.fate.Fate.{Fate}
-use Rattle.cyc_machine.specs.declared.fate.Fate.TheVariants.{Absent, Dropped, Stays, Goes}
+use Rattle.cyc_machine.specs.declared.fate.Fate.TheVariants.{Absent, Dropped, Stays}
 use Rattle.cyc_machine.specs.declared.registers.TheConstants.{REGISTERS}
 use Rattle.cyc_machine.proofs.Events.{event-law, events-law}
 use Rattle.cyc_machine.proofs.RunsOn.{reset-shape, runs-law}

@@ -1,6 +1,5 @@
 -- What becomes of a flip of a protected bit before a cycle of a recorded run.
 use Rattle.std.specs.Prelude.{◌≡◌, ◌≤◌, ◌<◌, ◌-◌, ℕ, zero, suc}
-use Rattle.bit_field.specs.Shapes.{IsPlaceIn}
 use Rattle.bit_field.specs.declared.places.Place.{Place}
 use Rattle.cyc_machine.specs.Run.{state_after, state_at}
 use Rattle.cyc_machine.specs.Strikes.{flip_at_place}

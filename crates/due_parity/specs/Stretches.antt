@@ -8,7 +8,6 @@ use Rattle.ace_rules.specs.Notes.{Story, moment}
 use Rattle.due_parity.specs.Due.{count_from, is_false_due, is_quiet, is_true_due}
 use Rattle.due_parity.specs.Fates.{fate}
 use Rattle.due_parity.specs.declared.counting.DueCounts.{DueCounts}
-use Rattle.due_parity.specs.declared.fate.Fate.{Fate}
 use Rattle.due_parity.specs.declared.fate.Fate.TheVariants.{Detected}
 
 abbrev pub no_pairs : DueCounts

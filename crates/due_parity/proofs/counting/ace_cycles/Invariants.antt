@@ -1,4 +1,4 @@
-use Rattle.std.proofs.Common.{◌≤◌, ◌-◌, ℕ}
+use Rattle.std.proofs.Common.{◌≤◌, ◌-◌}
 use Rattle.due_parity.specs.Stretches.{HasAce}
 use Rattle.due_parity.proofs.counting.ace_cycles.Given as goal
 

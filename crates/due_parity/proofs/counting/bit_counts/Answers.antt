@@ -1,8 +1,8 @@
-use Rattle.std.proofs.Common.{◌≡◌, ◌+◌, ◌<◌, ◌≤◌, ◌∙◌, length, get_or, false, refl, arith, subst}
+use Rattle.std.proofs.Common.{◌≡◌, ◌+◌, ◌<◌, ◌∙◌, length, get_or, false, refl, arith, subst}
 use Rattle.std.proofs.lemmas.List.{get_or_default}
 use Rattle.due_parity.specs.Stretches.{CountsCycles}
 use Rattle.due_parity.specs.declared.watched.Noted.{Noted}
-use Rattle.due_parity.proofs.Passed.{IsPassed, counted-all, last-fates, passed-more, passed-none, so-far, stretch-fates, until-after, until-within}
+use Rattle.due_parity.proofs.Passed.{IsPassed, counted-all, last-fates, passed-more, passed-none, so-far, stretch-fates, until-within}
 use Rattle.due_parity.proofs.Stretched.{all-counted}
 use Rattle.due_parity.proofs.counting.bit_counts.Goals as goal
 

@@ -1,9 +1,8 @@
-use Rattle.std.proofs.Common.{◌≡◌, ◌+◌, ◌*◌, ◌<◌, ◌≤◌, ◌^◌, ◌∙◌, refl, ap, arith, subst}
+use Rattle.std.proofs.Common.{◌≡◌, ◌*◌, ◌≤◌, ◌∙◌, refl, ap, arith}
 use Rattle.std.proofs.lemmas.Nat.{mul-le}
 use Rattle.bit_field.specs.Shapes.{bits_in}
 use Rattle.bit_field.specs.declared.shapes.Shape.{Shape}
-use Rattle.due_parity.specs.Due.{CountsBits, place}
-use Rattle.due_parity.specs.Stretches.{all_of}
+use Rattle.due_parity.specs.Due.{place}
 use Rattle.due_parity.proofs.Stretched.{all-counted}
 use Rattle.due_parity.proofs.Totals.{all-pairs, more-bits, no-bits}
 use Rattle.due_parity.proofs.counting.due.Goals as goal

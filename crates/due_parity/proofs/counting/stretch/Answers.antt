@@ -1,4 +1,4 @@
-use Rattle.std.proofs.Common.{subst, true, false}
+use Rattle.std.proofs.Common.{subst}
 use Rattle.due_parity.specs.Stretches.{AreDetected}
 use Rattle.due_parity.proofs.Stretched.{detected, undetected}
 use Rattle.due_parity.proofs.counting.stretch.Goals as goal

@@ -1,4 +1,4 @@
-use Rattle.std.proofs.Common.{◌≡◌, ◌∙◌, ℕ, ◌*◌, List, length, drop, arith, sym, ap}
+use Rattle.std.proofs.Common.{◌≡◌, ◌∙◌, ◌*◌, List, length, drop, arith, sym, ap}
 use Rattle.std.proofs.lemmas.List.{take_at}
 use Rattle.bit_field.specs.Shapes.{slots}
 use Rattle.bit_field.specs.declared.shapes.Shape.{Shape}
