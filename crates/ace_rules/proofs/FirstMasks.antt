@@ -15,6 +15,7 @@ use Rattle.ace_class.specs.declared.class.Class.TheVariants.{Ace, UnAce}
 use Rattle.ace_class.specs.declared.class.Rule.{Rule}
 use Rattle.ace_rules.specs.RuleMasks.{first_of, is_set}
 use Rattle.ace_rules.specs.Sums.{count_below, sum_below}
+use Rattle.ace_rules.specs.Tallies.{IsAdded}
 use Rattle.ace_rules.specs.declared.tally.RuleMask.{RuleMask}
 use Rattle.ace_rules.proofs.Popcounts.{ones-count}
 use Rattle.ace_rules.proofs.Tallies.{number-most, put-at}
@@ -36,7 +37,7 @@ is_and : (a b k : ℕ) → is_set (bit_and a b) k ≡ is_set a k && is_set b k
 is_and a b k = let h = bit_at_and a b k in let l = bit_at-lt a k in let m = bit_at-lt b k in grind (arith, nat_tests)
 
 -- what is left without what was found
-is_rest : (a b k : ℕ) → is_set (bit_xor a (bit_and a b)) k ≡ is_set a k && cond (is_set b k) false true
+pub is_rest : (a b k : ℕ) → is_set (bit_xor a (bit_and a b)) k ≡ is_set a k && cond (is_set b k) false true
 is_rest a b k =
     let h = bit_at_and a b k in
     let x = bit_at_xor a (bit_and a b) k in
@@ -134,3 +135,9 @@ rest-fits bits left mask fits = xor_lt bits left (bit_and left mask) fits (and_l
 
 pub rule-most : (i : ℕ) (rule : Rule) → i ≡ rule_number rule → i < 14
 rule-most i rule is = let m = number-most (UnAce rule) in omega (arith, is, m)
+
+-- what is counted, once the masks are known to give the classes
+pub added-firsts : (Has : ℕ → Class → Type 0) (masks : List RuleMask) (bits : ℕ) (old row : List ℕ) → length row ≡ length old
+    → ((n : ℕ) → slice_index row n ≡ slice_index old n + count_below bits (λ k. class_number (first_of masks k) == n))
+    → ((k : ℕ) → k < bits → Has k (first_of masks k)) → IsAdded Has bits old row
+added-firsts Has masks bits old row full counts are = record { classes = first_of masks; are = are; full = full; counts = counts }

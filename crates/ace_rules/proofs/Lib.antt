@@ -33,3 +33,7 @@ pub mod Sums
 pub mod Tallies
 mod Popcounts
 mod FirstMasks
+mod MarkedBits
+mod LatchMarks
+mod NextBits
+mod DecodedMarks

@@ -1,5 +1,5 @@
 -- Rows of counts, made bit by bit, cycle by cycle, or stretch by stretch.
-use Rattle.std.proofs.Common.{◌≡◌, ◌≢◌, ℕ, zero, suc, ◌^◌, ◌+◌, ◌-◌, ◌*◌, ◌<◌, ◌≤◌, ◌==◌, cond, Bool, true, false, nat_lt, List, length, set, refl, sym, ap, ◌∙◌, inl, inr, arith, sum_by}
+use Rattle.std.proofs.Common.{◌≡◌, ◌≢◌, ℕ, zero, suc, ◌^◌, ◌+◌, ◌-◌, ◌*◌, ◌<◌, ◌≤◌, ◌==◌, cond, Bool, true, false, nat_lt, List, length, set, refl, sym, ap, ◌∙◌, subst, inl, inr, arith, sum_by}
 use Rattle.std.specs.Prelude.{slice_index, replicate}
 use Rattle.std.proofs.lemmas.Bool.{cases_lt, cases_eq}
 use Rattle.std.proofs.lemmas.Bool.Decides.{nat_tests}
@@ -16,7 +16,7 @@ use Rattle.ace_class.specs.declared.class.Rule.TheVariants.{Timing, EmptyPlace, 
 use Rattle.ace_class.specs.declared.class.Rule.TheVariants.{StoreRedirection, CleanData, CleanLine, UnaccessedLine, CleanTag, NoTrapCause}
 use Rattle.ace_rules.specs.Sums.{count_below, count_pairs, sum_below}
 use Rattle.ace_rules.specs.Tallies.{IsAdded, IsTally}
-use Rattle.ace_rules.proofs.Sums.{sum_below-suc, sum_below-same, sum_below-const, sum_below-le, sum_below-on, sum_by-sum_below, sum_below-add}
+use Rattle.ace_rules.proofs.Sums.{sum_below-suc, sum_below-same, sum_below-const, sum_below-le, sum_below-on, sum_by-sum_below, sum_below-add, sum_below-split}
 
 -- each number has one class at most
 abbrev pub HasOne : (ℕ → Class → Type 0) → Type 0
@@ -115,6 +115,44 @@ module _ (Has : ℕ → Class → Type 0) (one : HasOne Has) (from until : ℕ) 
 -- the row has room for what is added
 pub added-most : (Has : ℕ → Class → Type 0) (end : ℕ) (old row : List ℕ) → IsAdded Has end old row → (n : ℕ) → slice_index row n ≤ slice_index old n + end
 added-most Has end old row h n = let e = h.counts n in let l = count-le end (λ k. class_number (h.classes k) == n) in omega arith
+
+-- the classes of m numbers, and those of the numbers behind them
+joined : ℕ → (ℕ → Class) → (ℕ → Class) → ℕ → Class
+joined m f g k = cond (nat_lt k m) (f k) (g (k - m))
+
+joined-front : (m : ℕ) (f g : ℕ → Class) (k : ℕ) → k < m → joined m f g k ≡ f k
+unfolding joined
+joined-front m f g k l = grind (arith, nat_tests)
+
+joined-back : (m : ℕ) (f g : ℕ → Class) (k : ℕ) → joined m f g (m + k) ≡ g k
+unfolding joined
+joined-back m f g k =
+    let e : m + k - m ≡ k = omega arith in
+    let b : nat_lt (m + k) m ≡ false = grind (arith, nat_tests) in
+    rw b (ap g e)
+
+-- numbers behind those that have a class
+pub added-behind : (Has : ℕ → Class → Type 0) (m n : ℕ) (old between row : List ℕ) → IsAdded Has m old between
+    → IsAdded (λ k. Has (m + k)) n between row → IsAdded Has (m + n) old row
+added-behind Has m n old between row h more =
+    record {
+      classes = joined m h.classes more.classes;
+      are = λ k l. elim (cases_lt k m) [
+        | inl b ↦ rw (joined-front m h.classes more.classes k b) (h.are k b)
+        | inr b ↦
+            let e : m + (k - m) ≡ k = omega (arith, b) in
+            subst (λ (i : ℕ). Has i (joined m h.classes more.classes i)) e
+            (rw (joined-back m h.classes more.classes (k - m)) (more.are (k - m) (omega (arith, b, l))))
+      ];
+      full = more.full ∙ h.full;
+      counts = λ i.
+          let a = h.counts i in
+          let b = more.counts i in
+          let s = sum_below-split m n (λ k. number_of (class_number (joined m h.classes more.classes k) == i)) in
+          let f = sum_below-same m _ _ (λ k l. ap (λ c. number_of (class_number c == i)) (joined-front m h.classes more.classes k l)) in
+          let g = sum_below-same n _ _ (λ k l. ap (λ c. number_of (class_number c == i)) (joined-back m h.classes more.classes k)) in
+          omega (arith, a, b, s, f, g);
+    }
 
 -- ---- bits or cycles one by one
 

@@ -1,5 +1,5 @@
 // How many bits of a word have each class, by masks of the rules.
-ghost use Rattle.std.specs.Prelude.{◌≡◌, ◌+◌, ◌-◌, ◌^◌, ◌<◌, ◌≤◌, ◌==◌, ℕ, length, slice_index};
+ghost use Rattle.std.specs.Prelude.{◌≡◌, ◌+◌, ◌-◌, ◌^◌, ◌<◌, ◌≤◌, ◌==◌, ℕ, length, slice_index, bit_and, bit_xor, if◌then◌else◌};
 ghost use Rattle.ace_class.specs.Classes.{class_number};
 ghost use Rattle.ace_rules.specs.RuleMasks.{first_of};
 ghost use Rattle.ace_rules.specs.Sums.{count_below};
@@ -11,6 +11,20 @@ use ace_class::{CLASSES, Rule};
 pub(crate) struct RuleMask {
     pub rule: Rule,
     pub mask: u128,
+}
+
+/// A mask where a test holds, else none of its bits.
+pub(crate) fn when(test: bool, mask: u128) -> u128
+    ensures { result ≡ (if test then mask else 0) }
+{
+    if test { mask } else { 0 }
+}
+
+/// The bits of a mask that another doesn't have.
+pub(crate) fn without(mask: u128, other: u128) -> u128
+    ensures { result ≡ bit_xor mask (bit_and mask other) }
+{
+    mask ^ (mask & other)
 }
 
 /// The mask of the lowest bits.
