@@ -37,3 +37,4 @@ mod MarkedBits
 mod LatchMarks
 mod NextBits
 mod DecodedMarks
+mod CycleTallies

@@ -112,6 +112,13 @@ module _ (Has : ℕ → Class → Type 0) (one : HasOne Has) (from until : ℕ) 
         counts = λ n. let h = so_far.counts n in put-at row i n (until - from) within ∙ rw is (omega (arith, h, stretch n));
       }
 
+-- one number more
+pub added-next : (Has : ℕ → Class → Type 0) → HasOne Has → (from : ℕ) (old row : List ℕ) → IsAdded Has from old row → (class : Class) → Has from class
+    → (i : ℕ) → i ≡ class_number class → i < length row → IsAdded Has (from + 1) old (set row i (slice_index row i + 1))
+added-next Has one from old row so_far class here i is within =
+    added-on Has one from (from + 1) old row so_far class (omega arith) here class
+    (λ k l m. let e : from ≡ k = omega (arith, l, m) in subst (λ (j : ℕ). Has j class) e here) i 1 is within (omega arith)
+
 -- the row has room for what is added
 pub added-most : (Has : ℕ → Class → Type 0) (end : ℕ) (old row : List ℕ) → IsAdded Has end old row → (n : ℕ) → slice_index row n ≤ slice_index old n + end
 added-most Has end old row h n = let e = h.counts n in let l = count-le end (λ k. class_number (h.classes k) == n) in omega arith
@@ -240,6 +247,18 @@ tally-none Has cycles = tally-no_bits Has cycles (replicate CLASSES 0) refl (zer
 
 pub tally-most : (Has : ℕ → ℕ → Class → Type 0) (bits cycles : ℕ) (row : List ℕ) → IsTally Has bits cycles row → (n : ℕ) → slice_index row n ≤ bits * cycles
 tally-most Has bits cycles row h n = rw (h.counts n) (pairs-le bits cycles (λ k t. class_number (h.classes k t) == n))
+
+-- no cycles yet
+pub tally-none_yet : (Has : ℕ → ℕ → Class → Type 0) (bits : ℕ) → IsTally Has bits 0 (replicate CLASSES 0)
+tally-none_yet Has bits = tally-no_cycles Has bits (replicate CLASSES 0) refl (zeros CLASSES)
+
+-- with room for one cycle more
+pub tally-room_for_bits : (Has : ℕ → ℕ → Class → Type 0) (bits cycle : ℕ) (row : List ℕ) → IsTally Has bits cycle row → bits ≤ 65536
+    → cycle ≤ 1000000 → (n : ℕ) → slice_index row n + bits < 2 ^ 64
+tally-room_for_bits Has bits cycle row h few short n =
+    let m = tally-most Has bits cycle row h n in
+    let p = mul-le bits cycle 65536 1000000 few short in
+    omega (arith, m, p)
 
 -- with room for one bit more
 pub tally-room : (Has : ℕ → ℕ → Class → Type 0) (bit cycles : ℕ) (row : List ℕ) → IsTally Has bit cycles row → bit < 2 ^ 32 → cycles ≤ 1000000

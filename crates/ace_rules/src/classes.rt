@@ -24,7 +24,7 @@ use slot_history::SlotTable;
 use tag_dist::TagTable;
 
 /// The note of a cycle.
-fn note_at(notes: &[Note], cycle: u32) -> &Note
+pub(crate) fn note_at(notes: &[Note], cycle: u32) -> &Note
     requires { cycle < length notes.now }
     ensures { slice_get notes.now cycle ≡ Some result.now }
 {

@@ -1,12 +1,11 @@
 // How many bits of a structure have each class in a cycle.
-ghost use Rattle.std.specs.Prelude.{◌≡◌, ◌+◌, ◌^◌, ◌<◌, ◌≤◌, ℕ, Some, length, slice_get, slice_index};
+ghost use Rattle.std.specs.Prelude.{◌+◌, ◌^◌, ◌<◌, ℕ, slice_index};
 ghost use Rattle.bit_field.specs.Shapes.{bits_in};
-ghost use Rattle.ace_rules.specs.Analyses.{IsAnalysis};
-ghost use Rattle.ace_rules.specs.Notes.{Story, moment};
+ghost use Rattle.ace_rules.specs.Notes.{moment};
 ghost use Rattle.ace_rules.specs.Tallies.{HasClass, IsAdded};
 
 use crate::analysis::Analysis;
-use crate::note::Note;
+use crate::classes::note_at;
 use crate::tally_decoded::add_decoded;
 use crate::tally_latches::{add_executed, add_result};
 use ace_class::CLASSES;
@@ -33,7 +32,7 @@ impl Analysis<'_> {
         requires room { (n : ℕ) → slice_index row.old n + bits_in structure self.now.r.shape < 2 ^ 64 }
         ensures { IsAdded (HasClass (moment self.now cycle) structure) (bits_in structure self.now.r.shape) row.old row.new }
     {
-        let note = &self.notes[cycle as usize];
+        let note = note_at(&self.notes, cycle);
         let quiet = self.quiet <= cycle;
         match structure {
             Structure::IdEx => add_decoded(note, quiet, row),
