@@ -17,7 +17,7 @@ use Rattle.ace_rules.proofs.KnownMoments.{known}
 module _ (story now : Story) (seen : story ≡ now) (table : Needs) (notes deref : List Note) (words : List ℕ) (quiet : ℕ) (life : Lives) (tags : Tables)
     (slots : Histories) (kept : IsAnalysis story table notes words quiet life tags slots) (t : ℕ) (below : t < now.r.cycles) (note : Note)
     (same : deref ≡ notes) (at : slice_get deref t ≡ Some note) where
-  known-note : IsKnown (moment story t) table note (nat_le quiet t)
+  pub known-note : IsKnown (moment story t) table note (nat_le quiet t)
   known-note =
       known story table notes words quiet life tags slots kept story.r refl t note (subst (λ (x : Story). t < x.r.cycles) (sym seen) below)
       (subst (λ (ns : List Note). slice_get ns t ≡ Some note) same at)

@@ -38,3 +38,4 @@ mod LatchMarks
 mod NextBits
 mod DecodedMarks
 mod CycleTallies
+mod FreeSlots

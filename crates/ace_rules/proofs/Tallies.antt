@@ -161,6 +161,19 @@ added-behind Has m n old between row h more =
           omega (arith, a, b, s, f, g);
     }
 
+-- numbers that all have one class
+pub added-all : (Has : ℕ → Class → Type 0) (class : Class) (count : ℕ) → ((k : ℕ) → k < count → Has k class) → (old : List ℕ) (i by : ℕ)
+    → i ≡ class_number class → i < length old → by ≡ count → IsAdded Has count old (set old i (slice_index old i + by))
+added-all Has class count same old i by is within all = record {
+  classes = λ k. class;
+  are = same;
+  full = length-set old _ _;
+  counts = λ n.
+      let p = put-at old i n by within in
+      let s = sum_below-const count (number_of (class_number class == n)) in
+      p ∙ rw (is, all) (omega (arith, s));
+}
+
 -- ---- bits or cycles one by one
 
 zeros : (m n : ℕ) → slice_index (replicate m 0) n ≡ 0
