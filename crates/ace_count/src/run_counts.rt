@@ -15,6 +15,7 @@ fn tally(a: &Analysis<'_>, structure: Structure) -> [u64; CLASSES]
 {
     match structure {
         Structure::IdEx | Structure::ExMem | Structure::MemWb => tally_by_cycles(a, structure),
+        Structure::Ib | Structure::Sb => tally_by_cycles(a, structure),
         _ => tally_by_intervals(a, structure),
     }
 }

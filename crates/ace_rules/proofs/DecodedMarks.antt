@@ -169,10 +169,16 @@ module _ (note : Note) (k : ℕ) (place : IdExField × ℕ) (l : k < 128) (at : 
       → is_set (bit_or on idle) k ≡ is_place_of_decoded note place.0
   place-set on idle where_is is_on is_idle is_where =
       set-or on idle k
-      ∙ rw (is_on, is_idle, is_where, when-set note.decoded_on_path DECODED_PLACE k,
-      when-set (not note.decoded) (if not note.decoded_next then DECODED_VALID else 0) k, when-set (not note.decoded_next) DECODED_VALID k,
-      marks says_where idex.field_of (is_set DECODED_PLACE) 128 place-tried k place l at,
-      marks is_valid idex.field_of (is_set DECODED_VALID) 128 valid-tried k place l at)
+      ∙ rw (
+        is_on,
+        is_idle,
+        is_where,
+        when-set note.decoded_on_path DECODED_PLACE k,
+        when-set (not note.decoded) (if not note.decoded_next then DECODED_VALID else 0) k,
+        when-set (not note.decoded_next) DECODED_VALID k,
+        marks says_where idex.field_of (is_set DECODED_PLACE) 128 place-tried k place l at,
+        marks is_valid idex.field_of (is_set DECODED_VALID) 128 valid-tried k place l at,
+      )
       (sym (place-of note place.0))
 
   pub decoded-low : (quiet : Bool) (empty wrong off off_path others on_path masked where_is : ℕ)
@@ -187,11 +193,26 @@ module _ (note : Note) (k : ℕ) (place : IdExField × ℕ) (l : k < 128) (at : 
   decoded-low quiet empty wrong off off_path others on_path masked where_is e w o p s q t m =
       let low : nat_lt k 128 ≡ true = grind (arith, nat_tests) in
       let no_count : is_count place.0 ≡ false = sym (marks is_count idex.field_of (λ i. false) 128 no-count-tried k place l at) in
-      rw (no_count, and-false quiet, low, e, w, o, p, q, m, when-set (not note.decoded) DECODED_UNUSED k,
-      marks is_unused_decoded idex.field_of (is_set DECODED_UNUSED) 128 unused-tried k place l at,
-      when-set quiet (if note.decoded then (if not note.decoded_on_path then others else 0) else 0) k,
-      when-set note.decoded (if not note.decoded_on_path then others else 0) k, when-set (not note.decoded_on_path) others k, s,
-      when-set quiet where_is k, t, when-set quiet note.masks.idex_low k)
+      rw (
+        no_count,
+        and-false quiet,
+        low,
+        e,
+        w,
+        o,
+        p,
+        q,
+        m,
+        when-set (not note.decoded) DECODED_UNUSED k,
+        marks is_unused_decoded idex.field_of (is_set DECODED_UNUSED) 128 unused-tried k place l at,
+        when-set quiet (if note.decoded then (if not note.decoded_on_path then others else 0) else 0) k,
+        when-set note.decoded (if not note.decoded_on_path then others else 0) k,
+        when-set (not note.decoded_on_path) others k,
+        s,
+        when-set quiet where_is k,
+        t,
+        when-set quiet note.masks.idex_low k,
+      )
       refl
 
 -- ---- the bits from 128 on
@@ -209,11 +230,25 @@ decoded-high note k place l at quiet count empty wrong off off_path masked c e w
     let high : nat_lt (128 + k) 128 ≡ false = grind (arith, nat_tests) in
     let back : 128 + k - 128 ≡ k = omega arith in
     let elsewhere : says_where place.0 ≡ false = sym (marks says_where (λ i. idex.field_of (128 + i)) (λ i. false) 25 no-place-tried k place l at) in
-    rw (no-place note place.0 elsewhere, and-false quiet, wrong-high note place.0 place.1 elsewhere, high, back, c, e, w, o, p, m,
-    when-set quiet DECODED_COUNT k, marks is_count (λ i. idex.field_of (128 + i)) (is_set DECODED_COUNT) 25 count-tried k place l at,
-    when-set (not note.decoded) DECODED_IMMEDIATE k,
-    when-set quiet (if note.decoded then (if not note.decoded_on_path then DECODED_IMMEDIATE else 0) else 0) k,
-    when-set note.decoded (if not note.decoded_on_path then DECODED_IMMEDIATE else 0) k, when-set (not note.decoded_on_path) DECODED_IMMEDIATE k,
-    marks is_unused_decoded (λ i. idex.field_of (128 + i)) (is_set DECODED_IMMEDIATE) 25 immediate-tried k place l at,
-    when-set quiet note.masks.idex_high k)
+    rw (
+      no-place note place.0 elsewhere,
+      and-false quiet,
+      wrong-high note place.0 place.1 elsewhere,
+      high,
+      back,
+      c,
+      e,
+      w,
+      o,
+      p,
+      m,
+      when-set quiet DECODED_COUNT k,
+      marks is_count (λ i. idex.field_of (128 + i)) (is_set DECODED_COUNT) 25 count-tried k place l at,
+      when-set (not note.decoded) DECODED_IMMEDIATE k,
+      when-set quiet (if note.decoded then (if not note.decoded_on_path then DECODED_IMMEDIATE else 0) else 0) k,
+      when-set note.decoded (if not note.decoded_on_path then DECODED_IMMEDIATE else 0) k,
+      when-set (not note.decoded_on_path) DECODED_IMMEDIATE k,
+      marks is_unused_decoded (λ i. idex.field_of (128 + i)) (is_set DECODED_IMMEDIATE) 25 immediate-tried k place l at,
+      when-set quiet note.masks.idex_high k,
+    )
     refl

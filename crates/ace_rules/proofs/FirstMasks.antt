@@ -58,10 +58,10 @@ pub left-step : (bits left : ℕ) (m : RuleMask) (masks : List RuleMask) (n : �
 left-step bits left m masks n fits =
     let c = number_of (rule_number m.rule == n) in
     let each : (k : ℕ) → k < bits → number_of (is_set left k && class_number (first_of (m ∷ masks) k) == n)
-        ≡ number_of (is_set (bit_and left m.mask) k) * c + number_of (is_set (bit_xor left (bit_and left m.mask)) k && class_number (first_of masks k) == n) =
-        λ k l.
-        rw (is_and left m.mask k, is_rest left m.mask k)
-        (at_bit (is_set left k) (is_set m.mask k) m.rule (first_of masks k) n) in
+    ≡ number_of (is_set (bit_and left m.mask) k) * c + number_of (is_set (bit_xor left (bit_and left m.mask)) k && class_number (first_of masks k) == n) =
+    λ k l.
+    rw (is_and left m.mask k, is_rest left m.mask k)
+    (at_bit (is_set left k) (is_set m.mask k) m.rule (first_of masks k) n) in
     sum_below-same bits _ _ each
     ∙ sum_below-add bits (λ k. number_of (is_set (bit_and left m.mask) k) * c) (λ k. number_of (is_set (bit_xor left (bit_and left m.mask)) k && class_number (first_of masks k) == n))
     ∙ ap (λ (s : ℕ). s + left_count bits (bit_xor left (bit_and left m.mask)) masks n)
@@ -85,8 +85,8 @@ pub left-start : (bits : ℕ) (masks : List RuleMask) (n : ℕ)
     → left_count bits (2 ^ bits - 1) masks n ≡ count_below bits (λ k. class_number (first_of masks k) == n)
 left-start bits masks n =
     sum_below-same bits _ _ (λ k l.
-        let h : is_set (2 ^ bits - 1) k ≡ true = let e = bit_at_ones bits k l in grind (arith, nat_tests) in
-        rw h refl)
+    let h : is_set (2 ^ bits - 1) k ≡ true = let e = bit_at_ones bits k l in grind (arith, nat_tests) in
+    rw h refl)
 
 same_number : (i : ℕ) → number_of (i == i) ≡ 1
 same_number i = grind (arith, nat_tests)

@@ -41,8 +41,13 @@ pub result-marked : (note : Note) (quiet : Bool) (empty masked : ℕ) → empty 
     → first_of (of EmptyPlace empty ∷ of Masked masked ∷ []) k ≡ class_by (result_tests note quiet k place.0)
 unfolding class_by result_tests no_rule
 result-marked note quiet empty masked is_empty is_masked k place l at =
-    rw (is_empty, is_masked, when-set (note.result_rd == 0) RESULT_VALUE k,
-    marks is_value memwb.field_of (is_set RESULT_VALUE) MEM_WB_BITS value-tried k place l at, when-set quiet note.masks.memwb k)
+    rw (
+      is_empty,
+      is_masked,
+      when-set (note.result_rd == 0) RESULT_VALUE k,
+      marks is_value memwb.field_of (is_set RESULT_VALUE) MEM_WB_BITS value-tried k place l at,
+      when-set quiet note.masks.memwb k,
+    )
     refl
 
 pub executed-marked : (note : Note) (quiet : Bool) (empty masked cause : ℕ) → empty ≡ (if not note.occupied then EXECUTED_UNUSED else 0)
@@ -51,8 +56,15 @@ pub executed-marked : (note : Note) (quiet : Bool) (empty masked cause : ℕ) �
     → first_of (of EmptyPlace empty ∷ of Masked masked ∷ of NoTrapCause cause ∷ []) k ≡ class_by (executed_tests note quiet k place.0)
 unfolding class_by executed_tests no_rule
 executed-marked note quiet empty masked cause is_empty is_masked cause_is k place l at =
-    rw (is_empty, is_masked, cause_is, when-set (not note.occupied) EXECUTED_UNUSED k,
-    marks (λ f. not (is_executed_valid f)) exmem.field_of (is_set EXECUTED_UNUSED) EX_MEM_BITS unused-tried k place l at,
-    when-set quiet note.masks.exmem k, when-set note.occupied (if not note.traps then EXECUTED_CAUSE else 0) k, when-set (not note.traps) EXECUTED_CAUSE k,
-    marks is_cause exmem.field_of (is_set EXECUTED_CAUSE) EX_MEM_BITS cause-tried k place l at)
+    rw (
+      is_empty,
+      is_masked,
+      cause_is,
+      when-set (not note.occupied) EXECUTED_UNUSED k,
+      marks (λ f. not (is_executed_valid f)) exmem.field_of (is_set EXECUTED_UNUSED) EX_MEM_BITS unused-tried k place l at,
+      when-set quiet note.masks.exmem k,
+      when-set note.occupied (if not note.traps then EXECUTED_CAUSE else 0) k,
+      when-set (not note.traps) EXECUTED_CAUSE k,
+      marks is_cause exmem.field_of (is_set EXECUTED_CAUSE) EX_MEM_BITS cause-tried k place l at,
+    )
     refl

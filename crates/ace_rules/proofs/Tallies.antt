@@ -54,11 +54,11 @@ put-at row i n by within =
     elim (cases_eq n i) [
       | inl e ↦
           let same : slice_index (set row i (slice_index row i + by)) i ≡ slice_index row i + by =
-              get_or-set_same row i (slice_index row i + by) 0 within in
+          get_or-set_same row i (slice_index row i + by) 0 within in
           rw (e, same) (grind (arith, nat_tests))
       | inr d ↦
           let other : slice_index (set row i (slice_index row i + by)) n ≡ slice_index row n =
-              get_or-set_other row i n (slice_index row i + by) 0 d in
+          get_or-set_other row i n (slice_index row i + by) 0 d in
           rw other (grind (arith, nat_tests))
     ]
 

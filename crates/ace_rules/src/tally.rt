@@ -32,7 +32,11 @@ fn lowest(bits: u32) -> u128
     requires { bits ≤ 128 }
     ensures { result ≡ 2 ^ bits - 1 }
 {
-    if bits < 128 { (1 << bits) - 1 } else { u128::MAX }
+    if bits < 128 {
+        (1 << bits) - 1
+    } else {
+        u128::MAX
+    }
 }
 
 /// Adds to a row how many of the lowest bits have each class: the first rule whose mask has the bit gives it.

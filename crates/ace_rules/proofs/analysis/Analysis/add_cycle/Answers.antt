@@ -34,3 +34,15 @@ returns-in-MemWb c =
     added-in (story_of x.recorded x.trace) c.args.self.now c.self.view_is x.needs x.notes.items c.deref.result.now x.words.items x.quiet x.life x.tags
     x.slots c.self.invariant c.args.cycle c.requires.cycle c.note_at-note.result.now c.deref.ensures.value c.note_at-note.ensures MemWb c.args.structure
     c.in-MemWb.is MEM_WB_BITS refl c.args.row.now c.add_result.new.row c.add_result.ensures
+
+pub add_fetched-requires-clause-room : goal.add_fetched-requires-clause-room
+add_fetched-requires-clause-room c = λ n. rw c.in-Ib.is at (c.requires.room n)
+
+pub add_pending-requires-clause-room : goal.add_pending-requires-clause-room
+add_pending-requires-clause-room c = λ n. rw c.in-Sb.is at (c.requires.room n)
+
+pub returns-in-Ib : goal.returns-in-Ib
+returns-in-Ib c = rw c.in-Ib.is c.add_fetched.ensures
+
+pub returns-in-Sb : goal.returns-in-Sb
+returns-in-Sb c = rw c.in-Sb.is c.add_pending.ensures

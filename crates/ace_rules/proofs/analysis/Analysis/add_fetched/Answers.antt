@@ -27,7 +27,7 @@ add_slot-requires-clause-vacant c = λ k l.
     let story = story_of x.recorded x.trace in
     let t = c.args.cycle in
     let known = known-note story c.args.self.now c.self.view_is x.needs x.notes.items c.deref.result.now x.words.items x.quiet x.life x.tags x.slots
-        c.self.invariant t c.requires.cycle c.note_at.result.now c.deref.ensures.value c.note_at.ensures in
+    c.self.invariant t c.requires.cycle c.note_at.result.now c.deref.ensures.value c.note_at.ensures in
     let words = masks story x.needs x.notes.items x.words.items x.quiet x.life x.tags x.slots c.self.invariant story.r refl t in
     subst (λ (y : Story). HasClass (moment y t) Ib (64 * c.loop-slot.slot + c.if_occupied-asked.result + k) (UnAce EmptyPlace)) c.self.view_is
     (vacant-fetched (moment story t) x.needs c.note_at.result.now x.words.items (nat_le x.quiet t) known words c.loop-slot.slot

@@ -11,8 +11,8 @@ pub overflow_add-row : goal.overflow_add-row
 overflow_add-row c =
     let i = c.from-2.result in
     let most =
-        added-most (λ k. HasClass (moment c.args.self.now c.args.cycle) c.args.structure (c.args.first + k)) c.args.asked c.args.row.now
-        c.add_stretch.new.row c.add_stretch.ensures i in
+    added-most (λ k. HasClass (moment c.args.self.now c.args.cycle) c.args.structure (c.args.first + k)) c.args.asked c.args.row.now
+    c.add_stretch.new.row c.add_stretch.ensures i in
     let room = c.requires.room i in
     omega (arith, most, room, c.from.ensures)
 

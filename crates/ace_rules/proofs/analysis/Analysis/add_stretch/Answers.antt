@@ -13,8 +13,8 @@ pub overflow_add-row : goal.overflow_add-row
 overflow_add-row c =
     let i = c.from.result in
     let most =
-        added-most (λ k. HasClass (moment c.args.self.now c.args.cycle) c.args.structure (c.args.first + k)) c.loop-bit.bit c.args.row.now c.loop-bit.row
-        c.loop-bit.invariant i in
+    added-most (λ k. HasClass (moment c.args.self.now c.args.cycle) c.args.structure (c.args.first + k)) c.loop-bit.bit c.args.row.now c.loop-bit.row
+    c.loop-bit.invariant i in
     let room = c.requires.room i in
     omega (arith, most, room)
 
