@@ -4,13 +4,13 @@ use Rattle.bit_field.specs.Shapes.{bits_in}
 use Rattle.bit_field.specs.declared.places.Structure.{Structure}
 use Rattle.ace_class.specs.Counts.{Counted, row_of, structures}
 use Rattle.ace_class.specs.declared.class.Class.{Class}
-use Rattle.ace_law.specs.Classes.{IsClass}
 use Rattle.ace_rules.specs.Notes.{Story, moment}
+use Rattle.ace_rules.specs.Tallies as of_moment
 use Rattle.ace_rules.specs.Tallies.{IsTally}
 
--- this is the class of a structure's bit in a cycle
+-- this is the class of a structure's bit in a cycle of the run
 abbrev pub HasClass : Story → Structure → ℕ → ℕ → Class → Type 0
-HasClass story s bit t class = IsClass class (moment story t) (record { structure = s; bit = bit })
+HasClass story s bit t = of_moment.HasClass (moment story t) s bit
 
 -- The row is a structure's: each pair of one of its bits and a cycle of the run has a class, and the row has how many have each.
 abbrev pub IsRowOf : Story → Structure → List ℕ → Type 0

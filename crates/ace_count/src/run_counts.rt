@@ -3,6 +3,7 @@ ghost use Rattle.std.specs.Prelude.{◌≡◌, length};
 ghost use Rattle.ace_class.specs.Counts.{structures};
 ghost use Rattle.ace_count.specs.RunCounts.{AreCounts, IsRowOf};
 
+use crate::cycles::tally_by_cycles;
 use crate::intervals::tally_by_intervals;
 use ace_class::{CLASSES, Counts, STRUCTURES, order_law};
 use ace_rules::Analysis;
@@ -12,7 +13,11 @@ use bit_field::Structure;
 fn tally(a: &Analysis<'_>, structure: Structure) -> [u64; CLASSES]
     ensures { IsRowOf a.now structure result }
 {
-    tally_by_intervals(a, structure)
+    match structure {
+        Structure::IdEx | Structure::ExMem | Structure::MemWb => tally_by_cycles(a, structure),
+        Structure::Ib | Structure::Sb => tally_by_cycles(a, structure),
+        _ => tally_by_intervals(a, structure),
+    }
 }
 
 /// A row for each structure, nothing counted yet.

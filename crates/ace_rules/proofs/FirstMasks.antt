@@ -15,6 +15,7 @@ use Rattle.ace_class.specs.declared.class.Class.TheVariants.{Ace, UnAce}
 use Rattle.ace_class.specs.declared.class.Rule.{Rule}
 use Rattle.ace_rules.specs.RuleMasks.{first_of, is_set}
 use Rattle.ace_rules.specs.Sums.{count_below, sum_below}
+use Rattle.ace_rules.specs.Tallies.{IsAdded}
 use Rattle.ace_rules.specs.declared.tally.RuleMask.{RuleMask}
 use Rattle.ace_rules.proofs.Popcounts.{ones-count}
 use Rattle.ace_rules.proofs.Tallies.{number-most, put-at}
@@ -36,7 +37,7 @@ is_and : (a b k : ℕ) → is_set (bit_and a b) k ≡ is_set a k && is_set b k
 is_and a b k = let h = bit_at_and a b k in let l = bit_at-lt a k in let m = bit_at-lt b k in grind (arith, nat_tests)
 
 -- what is left without what was found
-is_rest : (a b k : ℕ) → is_set (bit_xor a (bit_and a b)) k ≡ is_set a k && cond (is_set b k) false true
+pub is_rest : (a b k : ℕ) → is_set (bit_xor a (bit_and a b)) k ≡ is_set a k && cond (is_set b k) false true
 is_rest a b k =
     let h = bit_at_and a b k in
     let x = bit_at_xor a (bit_and a b) k in
@@ -57,10 +58,10 @@ pub left-step : (bits left : ℕ) (m : RuleMask) (masks : List RuleMask) (n : �
 left-step bits left m masks n fits =
     let c = number_of (rule_number m.rule == n) in
     let each : (k : ℕ) → k < bits → number_of (is_set left k && class_number (first_of (m ∷ masks) k) == n)
-        ≡ number_of (is_set (bit_and left m.mask) k) * c + number_of (is_set (bit_xor left (bit_and left m.mask)) k && class_number (first_of masks k) == n) =
-        λ k l.
-        rw (is_and left m.mask k, is_rest left m.mask k)
-        (at_bit (is_set left k) (is_set m.mask k) m.rule (first_of masks k) n) in
+    ≡ number_of (is_set (bit_and left m.mask) k) * c + number_of (is_set (bit_xor left (bit_and left m.mask)) k && class_number (first_of masks k) == n) =
+    λ k l.
+    rw (is_and left m.mask k, is_rest left m.mask k)
+    (at_bit (is_set left k) (is_set m.mask k) m.rule (first_of masks k) n) in
     sum_below-same bits _ _ each
     ∙ sum_below-add bits (λ k. number_of (is_set (bit_and left m.mask) k) * c) (λ k. number_of (is_set (bit_xor left (bit_and left m.mask)) k && class_number (first_of masks k) == n))
     ∙ ap (λ (s : ℕ). s + left_count bits (bit_xor left (bit_and left m.mask)) masks n)
@@ -84,8 +85,8 @@ pub left-start : (bits : ℕ) (masks : List RuleMask) (n : ℕ)
     → left_count bits (2 ^ bits - 1) masks n ≡ count_below bits (λ k. class_number (first_of masks k) == n)
 left-start bits masks n =
     sum_below-same bits _ _ (λ k l.
-        let h : is_set (2 ^ bits - 1) k ≡ true = let e = bit_at_ones bits k l in grind (arith, nat_tests) in
-        rw h refl)
+    let h : is_set (2 ^ bits - 1) k ≡ true = let e = bit_at_ones bits k l in grind (arith, nat_tests) in
+    rw h refl)
 
 same_number : (i : ℕ) → number_of (i == i) ≡ 1
 same_number i = grind (arith, nat_tests)
@@ -134,3 +135,9 @@ rest-fits bits left mask fits = xor_lt bits left (bit_and left mask) fits (and_l
 
 pub rule-most : (i : ℕ) (rule : Rule) → i ≡ rule_number rule → i < 14
 rule-most i rule is = let m = number-most (UnAce rule) in omega (arith, is, m)
+
+-- what is counted, once the masks are known to give the classes
+pub added-firsts : (Has : ℕ → Class → Type 0) (masks : List RuleMask) (bits : ℕ) (old row : List ℕ) → length row ≡ length old
+    → ((n : ℕ) → slice_index row n ≡ slice_index old n + count_below bits (λ k. class_number (first_of masks k) == n))
+    → ((k : ℕ) → k < bits → Has k (first_of masks k)) → IsAdded Has bits old row
+added-firsts Has masks bits old row full counts are = record { classes = first_of masks; are = are; full = full; counts = counts }

@@ -38,3 +38,9 @@ mod FirstMasks
 mod NextStays
 mod Staying
 mod Intervals
+mod MarkedBits
+mod LatchMarks
+mod NextBits
+mod DecodedMarks
+mod CycleTallies
+mod FreeSlots

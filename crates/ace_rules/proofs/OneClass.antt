@@ -8,6 +8,8 @@ use Rattle.ace_class.specs.declared.class.Class.{Class}
 use Rattle.ace_class.specs.declared.class.Class.TheVariants.{Ace, UnAce}
 use Rattle.ace_law.specs.Classes.{IsClass}
 use Rattle.ace_law.specs.Moments.{Moment}
+use Rattle.ace_rules.specs.Tallies.{HasClass}
+use Rattle.bit_field.specs.declared.places.Structure.{Structure}
 
 pub one_class : (a : Moment) (p : Place) (c d : Class) → IsClass c a p → IsClass d a p → c ≡ d
 one_class a p Ace Ace h k = refl
@@ -19,3 +21,7 @@ one_class a p (UnAce rule) (UnAce other) h k =
       | inr (inl before) ↦ absurd (k.1 rule before h.0)
       | inr (inr behind) ↦ absurd (h.1 other behind k.0)
     ]
+
+-- so has each of a structure's
+pub one_each : (a : Moment) (s : Structure) (bit : ℕ) (c d : Class) → HasClass a s bit c → HasClass a s bit d → c ≡ d
+one_each a s bit c d h k = one_class a (record { structure = s; bit = bit }) c d h k

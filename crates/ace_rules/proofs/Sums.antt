@@ -49,3 +49,10 @@ sum_by-sum_below n f (x ∷ xs) =
     ∙ ap (λ (s : ℕ). sum_below n (f x) + s) (sum_by-sum_below n f xs)
     ∙ sym (sum_below-add n (f x) (λ k. sum_by (λ y. f y k) xs))
     ∙ sum_below-same n _ _ (λ k l. sym (sum_by-cons (λ y. f y k) x xs))
+
+pub sum_below-split : (m n : ℕ) (f : ℕ → ℕ) → sum_below (m + n) f ≡ sum_below m f + sum_below n (λ j. f (m + j))
+unfolding sum_below
+sum_below-split m zero f = let e : m + 0 ≡ m = omega arith in ap (λ (i : ℕ). sum_below i f) e ∙ omega arith
+sum_below-split m (suc n) f =
+    let e : m + suc n ≡ suc (m + n) = omega arith in
+    ap (λ (i : ℕ). sum_below i f) e ∙ omega (arith, sum_below-split m n f)

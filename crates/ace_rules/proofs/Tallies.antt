@@ -1,5 +1,5 @@
 -- Rows of counts, made bit by bit, cycle by cycle, or stretch by stretch.
-use Rattle.std.proofs.Common.{◌≡◌, ◌≢◌, ℕ, zero, suc, ◌^◌, ◌+◌, ◌-◌, ◌*◌, ◌<◌, ◌≤◌, ◌==◌, cond, Bool, true, false, nat_lt, List, length, set, refl, sym, ap, ◌∙◌, inl, inr, arith, sum_by}
+use Rattle.std.proofs.Common.{◌≡◌, ◌≢◌, ℕ, zero, suc, ◌^◌, ◌+◌, ◌-◌, ◌*◌, ◌<◌, ◌≤◌, ◌==◌, cond, Bool, true, false, nat_lt, List, length, set, refl, sym, ap, ◌∙◌, subst, inl, inr, arith, sum_by}
 use Rattle.std.specs.Prelude.{slice_index, replicate}
 use Rattle.std.proofs.lemmas.Bool.{cases_lt, cases_eq}
 use Rattle.std.proofs.lemmas.Bool.Decides.{nat_tests}
@@ -16,7 +16,7 @@ use Rattle.ace_class.specs.declared.class.Rule.TheVariants.{Timing, EmptyPlace, 
 use Rattle.ace_class.specs.declared.class.Rule.TheVariants.{StoreRedirection, CleanData, CleanLine, UnaccessedLine, CleanTag, NoTrapCause}
 use Rattle.ace_rules.specs.Sums.{count_below, count_pairs, sum_below}
 use Rattle.ace_rules.specs.Tallies.{IsAdded, IsTally}
-use Rattle.ace_rules.proofs.Sums.{sum_below-suc, sum_below-same, sum_below-const, sum_below-le, sum_below-on, sum_by-sum_below, sum_below-add}
+use Rattle.ace_rules.proofs.Sums.{sum_below-suc, sum_below-same, sum_below-const, sum_below-le, sum_below-on, sum_by-sum_below, sum_below-add, sum_below-split}
 
 -- each number has one class at most
 abbrev pub HasOne : (ℕ → Class → Type 0) → Type 0
@@ -54,11 +54,11 @@ put-at row i n by within =
     elim (cases_eq n i) [
       | inl e ↦
           let same : slice_index (set row i (slice_index row i + by)) i ≡ slice_index row i + by =
-              get_or-set_same row i (slice_index row i + by) 0 within in
+          get_or-set_same row i (slice_index row i + by) 0 within in
           rw (e, same) (grind (arith, nat_tests))
       | inr d ↦
           let other : slice_index (set row i (slice_index row i + by)) n ≡ slice_index row n =
-              get_or-set_other row i n (slice_index row i + by) 0 d in
+          get_or-set_other row i n (slice_index row i + by) 0 d in
           rw other (grind (arith, nat_tests))
     ]
 
@@ -112,9 +112,67 @@ module _ (Has : ℕ → Class → Type 0) (one : HasOne Has) (from until : ℕ) 
         counts = λ n. let h = so_far.counts n in put-at row i n (until - from) within ∙ rw is (omega (arith, h, stretch n));
       }
 
+-- one number more
+pub added-next : (Has : ℕ → Class → Type 0) → HasOne Has → (from : ℕ) (old row : List ℕ) → IsAdded Has from old row → (class : Class) → Has from class
+    → (i : ℕ) → i ≡ class_number class → i < length row → IsAdded Has (from + 1) old (set row i (slice_index row i + 1))
+added-next Has one from old row so_far class here i is within =
+    added-on Has one from (from + 1) old row so_far class (omega arith) here class
+    (λ k l m. let e : from ≡ k = omega (arith, l, m) in subst (λ (j : ℕ). Has j class) e here) i 1 is within (omega arith)
+
 -- the row has room for what is added
 pub added-most : (Has : ℕ → Class → Type 0) (end : ℕ) (old row : List ℕ) → IsAdded Has end old row → (n : ℕ) → slice_index row n ≤ slice_index old n + end
 added-most Has end old row h n = let e = h.counts n in let l = count-le end (λ k. class_number (h.classes k) == n) in omega arith
+
+-- the classes of m numbers, and those of the numbers behind them
+joined : ℕ → (ℕ → Class) → (ℕ → Class) → ℕ → Class
+joined m f g k = cond (nat_lt k m) (f k) (g (k - m))
+
+joined-front : (m : ℕ) (f g : ℕ → Class) (k : ℕ) → k < m → joined m f g k ≡ f k
+unfolding joined
+joined-front m f g k l = grind (arith, nat_tests)
+
+joined-back : (m : ℕ) (f g : ℕ → Class) (k : ℕ) → joined m f g (m + k) ≡ g k
+unfolding joined
+joined-back m f g k =
+    let e : m + k - m ≡ k = omega arith in
+    let b : nat_lt (m + k) m ≡ false = grind (arith, nat_tests) in
+    rw b (ap g e)
+
+-- numbers behind those that have a class
+pub added-behind : (Has : ℕ → Class → Type 0) (m n : ℕ) (old between row : List ℕ) → IsAdded Has m old between
+    → IsAdded (λ k. Has (m + k)) n between row → IsAdded Has (m + n) old row
+added-behind Has m n old between row h more =
+    record {
+      classes = joined m h.classes more.classes;
+      are = λ k l. elim (cases_lt k m) [
+        | inl b ↦ rw (joined-front m h.classes more.classes k b) (h.are k b)
+        | inr b ↦
+            let e : m + (k - m) ≡ k = omega (arith, b) in
+            subst (λ (i : ℕ). Has i (joined m h.classes more.classes i)) e
+            (rw (joined-back m h.classes more.classes (k - m)) (more.are (k - m) (omega (arith, b, l))))
+      ];
+      full = more.full ∙ h.full;
+      counts = λ i.
+          let a = h.counts i in
+          let b = more.counts i in
+          let s = sum_below-split m n (λ k. number_of (class_number (joined m h.classes more.classes k) == i)) in
+          let f = sum_below-same m _ _ (λ k l. ap (λ c. number_of (class_number c == i)) (joined-front m h.classes more.classes k l)) in
+          let g = sum_below-same n _ _ (λ k l. ap (λ c. number_of (class_number c == i)) (joined-back m h.classes more.classes k)) in
+          omega (arith, a, b, s, f, g);
+    }
+
+-- numbers that all have one class
+pub added-all : (Has : ℕ → Class → Type 0) (class : Class) (count : ℕ) → ((k : ℕ) → k < count → Has k class) → (old : List ℕ) (i by : ℕ)
+    → i ≡ class_number class → i < length old → by ≡ count → IsAdded Has count old (set old i (slice_index old i + by))
+added-all Has class count same old i by is within all = record {
+  classes = λ k. class;
+  are = same;
+  full = length-set old _ _;
+  counts = λ n.
+      let p = put-at old i n by within in
+      let s = sum_below-const count (number_of (class_number class == n)) in
+      p ∙ rw (is, all) (omega (arith, s));
+}
 
 -- ---- bits or cycles one by one
 
@@ -202,6 +260,18 @@ tally-none Has cycles = tally-no_bits Has cycles (replicate CLASSES 0) refl (zer
 
 pub tally-most : (Has : ℕ → ℕ → Class → Type 0) (bits cycles : ℕ) (row : List ℕ) → IsTally Has bits cycles row → (n : ℕ) → slice_index row n ≤ bits * cycles
 tally-most Has bits cycles row h n = rw (h.counts n) (pairs-le bits cycles (λ k t. class_number (h.classes k t) == n))
+
+-- no cycles yet
+pub tally-none_yet : (Has : ℕ → ℕ → Class → Type 0) (bits : ℕ) → IsTally Has bits 0 (replicate CLASSES 0)
+tally-none_yet Has bits = tally-no_cycles Has bits (replicate CLASSES 0) refl (zeros CLASSES)
+
+-- with room for one cycle more
+pub tally-room_for_bits : (Has : ℕ → ℕ → Class → Type 0) (bits cycle : ℕ) (row : List ℕ) → IsTally Has bits cycle row → bits ≤ 65536
+    → cycle ≤ 1000000 → (n : ℕ) → slice_index row n + bits < 2 ^ 64
+tally-room_for_bits Has bits cycle row h few short n =
+    let m = tally-most Has bits cycle row h n in
+    let p = mul-le bits cycle 65536 1000000 few short in
+    omega (arith, m, p)
 
 -- with room for one bit more
 pub tally-room : (Has : ℕ → ℕ → Class → Type 0) (bit cycles : ℕ) (row : List ℕ) → IsTally Has bit cycles row → bit < 2 ^ 32 → cycles ≤ 1000000

@@ -3,7 +3,14 @@ use Rattle.std.specs.Prelude.{◌≡◌, ℕ, ◌+◌, ◌<◌, ◌==◌, List, 
 use Rattle.ace_class.specs.Classes.{class_number}
 use Rattle.ace_class.specs.declared.class.Class.{Class}
 use Rattle.ace_class.specs.declared.class.TheConstants.{CLASSES}
+use Rattle.bit_field.specs.declared.places.Structure.{Structure}
+use Rattle.ace_law.specs.Classes.{IsClass}
+use Rattle.ace_law.specs.Moments.{Moment}
 use Rattle.ace_rules.specs.Sums.{count_below, count_pairs}
+
+-- this is the class of a structure's bit in a cycle
+abbrev pub HasClass : Moment → Structure → ℕ → Class → Type 0
+HasClass a s bit class = IsClass class a (record { structure = s; bit = bit })
 
 -- Each number below an end has a class, and a row has grown by how many have each.
 pub record IsAdded (Has : ℕ → Class → Type 0) (end : ℕ) (before row : List ℕ) : Type 0 where

@@ -15,7 +15,7 @@ use ace_law::un_ace_law;
 use bit_field::{Place, Structure};
 
 /// The note of a cycle.
-fn note_at(notes: &[Note], cycle: u32) -> &Note
+pub(crate) fn note_at(notes: &[Note], cycle: u32) -> &Note
     requires { cycle < length notes.now }
     ensures { slice_get notes.now cycle ≡ Some result.now }
 {

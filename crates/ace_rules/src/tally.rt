@@ -1,5 +1,5 @@
 // How many bits of a word have each class, by masks of the rules.
-ghost use Rattle.std.specs.Prelude.{◌≡◌, ◌+◌, ◌-◌, ◌^◌, ◌<◌, ◌≤◌, ◌==◌, ℕ, length, slice_index};
+ghost use Rattle.std.specs.Prelude.{◌≡◌, ◌+◌, ◌-◌, ◌^◌, ◌<◌, ◌≤◌, ◌==◌, ℕ, length, slice_index, bit_and, bit_xor, if◌then◌else◌};
 ghost use Rattle.ace_class.specs.Classes.{class_number};
 ghost use Rattle.ace_rules.specs.RuleMasks.{first_of};
 ghost use Rattle.ace_rules.specs.Sums.{count_below};
@@ -13,12 +13,30 @@ pub(crate) struct RuleMask {
     pub mask: u128,
 }
 
+/// A mask where a test holds, else none of its bits.
+pub(crate) fn when(test: bool, mask: u128) -> u128
+    ensures { result ≡ (if test then mask else 0) }
+{
+    if test { mask } else { 0 }
+}
+
+/// The bits of a mask that another doesn't have.
+pub(crate) fn without(mask: u128, other: u128) -> u128
+    ensures { result ≡ bit_xor mask (bit_and mask other) }
+{
+    mask ^ (mask & other)
+}
+
 /// The mask of the lowest bits.
 fn lowest(bits: u32) -> u128
     requires { bits ≤ 128 }
     ensures { result ≡ 2 ^ bits - 1 }
 {
-    if bits < 128 { (1 << bits) - 1 } else { u128::MAX }
+    if bits < 128 {
+        (1 << bits) - 1
+    } else {
+        u128::MAX
+    }
 }
 
 /// Adds to a row how many of the lowest bits have each class: the first rule whose mask has the bit gives it.

@@ -21,8 +21,8 @@ pub overflow_add-row : goal.overflow_add-row
 overflow_add-row c =
     let i = c.from-in-loop-m.result in
     let room =
-        next-room c.args.bits c.loop-m.left _ c.loop-m.row _ c.loop-m.invariant.left c.loop-m.invariant.counts _ _ i
-        c.from.result (drop_more c.args.masks.now c.loop-m.m-index _ c.loop-m-test.true) (c.from-in-loop-m.ensures ∙ c.number.ensures) c.from.ensures in
+    next-room c.args.bits c.loop-m.left _ c.loop-m.row _ c.loop-m.invariant.left c.loop-m.invariant.counts _ _ i
+    c.from.result (drop_more c.args.masks.now c.loop-m.m-index _ c.loop-m-test.true) (c.from-in-loop-m.ensures ∙ c.number.ensures) c.from.ensures in
     let most = count-le c.args.bits (λ k. class_number (first_of c.args.masks.now k) == i) in
     let h = c.requires.room i in
     omega (arith, room, most, h)
@@ -40,8 +40,8 @@ loop-m-preserved c = record {
 pub overflow_add-row-2 : goal.overflow_add-row-2
 overflow_add-row-2 c =
     let room =
-        end-room c.args.bits c.loop-m.left _ c.loop-m.row _ c.loop-m.invariant.left c.loop-m.invariant.counts c.from-2.result
-        (drop_all c.loop-m.m-index c.args.masks.now c.loop-m-test.false) c.from-2.ensures in
+    end-room c.args.bits c.loop-m.left _ c.loop-m.row _ c.loop-m.invariant.left c.loop-m.invariant.counts c.from-2.result
+    (drop_all c.loop-m.m-index c.args.masks.now c.loop-m-test.false) c.from-2.ensures in
     let most = count-le c.args.bits (λ k. class_number (first_of c.args.masks.now k) == 0) in
     let h = c.requires.room 0 in
     omega (arith, room, most, h)
