@@ -1,4 +1,5 @@
 mod ByStatus
+mod CampaignTold
 mod Chains
 mod Deadness
 mod Flips

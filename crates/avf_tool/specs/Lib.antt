@@ -1,5 +1,6 @@
 pub mod Answers
 pub mod BitAnswers
+pub mod CampaignAnswers
 pub mod Due
 pub mod Ends
 pub mod Jobs

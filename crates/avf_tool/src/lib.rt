@@ -8,6 +8,7 @@ mod shape;
 
 // What a command answers.
 mod bits;
+mod campaigns;
 mod perform;
 mod reports;
 mod stages;
