@@ -2,6 +2,7 @@ mod ByStatus
 mod CampaignTold
 mod Chains
 mod Deadness
+mod DueTold
 mod Flips
 mod Generated
 mod HarmlessBits

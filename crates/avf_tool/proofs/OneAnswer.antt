@@ -1,6 +1,7 @@
 -- One answer is due to a command.
 use Rattle.std.proofs.Common.{◌≡◌, ℕ, List, Option, None, Some, refl, sym, ap, subst, ◌∙◌}
 use Rattle.bit_field.specs.declared.places.Place.{Place}
+use Rattle.bit_field.specs.declared.places.Structure.{Structure}
 use Rattle.elf_load.specs.Meaning.{image_of}
 use Rattle.run_record.specs.Run.{RecordedRun}
 use Rattle.run_record.specs.Within.{record_within}
@@ -23,10 +24,13 @@ use Rattle.strike_campaign.proofs.OneCampaign.{one_campaign}
 use Rattle.strike_campaign.specs.CampaignTexts.{campaign_text_of}
 use Rattle.avf_tool.specs.CampaignAnswers.{campaign_due}
 use Rattle.avf_tool.specs.declared.command.StrikesOfSeed.{StrikesOfSeed}
+use Rattle.due_parity.specs.DueTexts.{due_text_of}
+use Rattle.avf_tool.specs.DueAnswers.{rows_due, structures_in}
+use Rattle.avf_tool.proofs.DueTold.{one_rows}
 use Rattle.avf_tool.proofs.Flips.{same_verdict}
 use Rattle.avf_tool.specs.Words.{ImageJob, Job, OnImage, Bench, Assemble, bench_run}
 use Rattle.avf_tool.specs.declared.command.Task.{Task}
-use Rattle.avf_tool.specs.declared.command.Task.TheVariants.{Run, Dead, Report, Csv, Plan, Campaign, Query, Flip}
+use Rattle.avf_tool.specs.declared.command.Task.TheVariants.{Run, Dead, Report, Csv, Plan, Campaign, Due, Query, Flip}
 
 -- at most one answer is due
 HasOne : (Answer → Type 0) → Type 0
@@ -68,6 +72,13 @@ unfolding HasOne
 one_campaign_due run asked a b h k =
     sym h.2 ∙ ap (λ c. Text (campaign_text_of asked.strikes c)) (one_campaign (story_of run) asked.seed asked.strikes h.0 k.0 h.1 k.1) ∙ k.2
 
+one_rows_due : (run : RecordedRun) (structures : List Structure) → HasOne (rows_due run structures)
+unfolding HasOne
+one_rows_due run structures a b h k =
+    sym h.2
+    ∙ ap (λ rows. Text (due_text_of run.cycles rows))
+    (one_rows (story_of run) h.0 k.0 (h.1.named ∙ sym k.1.named) h.1.each k.1.each) ∙ k.2
+
 one_task : (task : Task) (run : RecordedRun) → HasOne (task_answer task run)
 one_task Run run = one_only _
 one_task Dead run = one_only _
@@ -75,6 +86,7 @@ one_task Report run = one_counts run (report_text_of run)
 one_task Csv run = one_counts run report_csv_of
 one_task (Plan bits) run = one_plan_due run bits
 one_task (Campaign asked) run = one_campaign_due run asked
+one_task (Due protected) run = one_rows_due run (structures_in protected)
 one_task (Query asked) run = one_place (place_in run asked) (class_due run asked.cycle) (one_class_due run asked.cycle)
 one_task (Flip asked) run = one_place (place_in run asked) (verdict_due run asked.cycle) (one_verdict_due run asked.cycle)
 

@@ -15,8 +15,10 @@ use Rattle.run_record.specs.declared.recorded.TheConstants.{LONGEST_RUN}
 use Rattle.strike_campaign.specs.declared.striking.TheConstants.{MOST_STRIKES}
 use Rattle.avf_tool.specs.Numbers.{number}
 use Rattle.avf_tool.specs.declared.command.BitInCycle.{BitInCycle}
+use Rattle.avf_tool.specs.declared.command.Protected.{Protected}
+use Rattle.avf_tool.specs.declared.command.Protected.TheVariants.{Registers, Data, Both}
 use Rattle.avf_tool.specs.declared.command.Task.{Task}
-use Rattle.avf_tool.specs.declared.command.Task.TheVariants.{Run, Dead, Report, Csv, Plan, Campaign, Query, Flip}
+use Rattle.avf_tool.specs.declared.command.Task.TheVariants.{Run, Dead, Report, Csv, Plan, Campaign, Due, Query, Flip}
 
 -- what is told of the run of an image: its file's name, the machine, and how many cycles the run may take
 pub record ImageJob : Type 0 where
@@ -76,6 +78,18 @@ campaign_words (seed ∷ strikes ∷ []) =
     option_and_then (λ s. option_map (λ n. Campaign (record { seed = s; strikes = n })) (number 1 MOST_STRIKES strikes)) (number 0 (2 ^ 64 - 1) seed)
 campaign_words _ = None
 
+-- PROTECTED: `rf`, `cdata` or `both`
+abbrev pub protected_named : List ℕ → Option Protected
+protected_named name =
+    if bytes_eq name (codes "rf") then Some Registers
+    else if bytes_eq name (codes "cdata") then Some Data
+    else if bytes_eq name (codes "both") then Some Both
+    else None
+
+abbrev pub due_words : List (List ℕ) → Option Task
+due_words (name ∷ []) = option_map Due (protected_named name)
+due_words _ = None
+
 -- the commands `NAME IMAGE BUDGET ..`, one line each
 abbrev pub tasks : List TaskWords
 tasks =
@@ -85,6 +99,7 @@ tasks =
     ∷ record { name = codes "csv"; reads = alone Csv }
     ∷ record { name = codes "plan"; reads = plan_words }
     ∷ record { name = codes "campaign"; reads = campaign_words }
+    ∷ record { name = codes "due"; reads = due_words }
     ∷ record { name = codes "query"; reads = λ words. option_map Query (bit_words words) }
     ∷ record { name = codes "flip"; reads = λ words. option_map Flip (bit_words words) }
     ∷ []

@@ -2,7 +2,7 @@
 ghost use Rattle.std.specs.Prelude.{◌≡◌, MatchOption, IfSome, Some, None, option_map};
 ghost use Rattle.bit_field.specs.Shapes.{IsShape};
 ghost use Rattle.avf_tool.specs.Words as asked;
-ghost use Rattle.avf_tool.specs.Words.{IsDoable, IsTask, asm_job, bit_words, campaign_words, command_of, command_on, plan_words, structure_of, task_in, task_job, tasks, texts, with_job, word_number};
+ghost use Rattle.avf_tool.specs.Words.{IsDoable, IsTask, asm_job, bit_words, campaign_words, due_words, protected_named, command_of, command_on, plan_words, structure_of, task_in, task_job, tasks, texts, with_job, word_number};
 ghost use Rattle.avf_tool.specs.Jobs.{job_of};
 
 use crate::numbers::number;
@@ -28,6 +28,14 @@ pub struct StrikesOfSeed {
     pub strikes: u32,
 }
 
+/// Which structures have parity.
+#[derive(Clone, Copy, Debug, PartialEq, Eq)]
+pub enum Protected {
+    Registers,
+    Data,
+    Both,
+}
+
 /// What a command tells of the run of an image.
 #[derive(Clone, Copy, Debug, PartialEq, Eq)]
 pub enum Task {
@@ -43,6 +51,8 @@ pub enum Task {
     Plan(u32),
     /// What becomes of strikes at random, by class and verdict.
     Campaign(StrikesOfSeed),
+    /// How many flips parity detects.
+    Due(Protected),
     /// The class of a bit in a cycle.
     Query(BitInCycle),
     /// What becomes of the run with a bit flipped before a cycle.
@@ -167,6 +177,27 @@ fn campaign_words(words: &[String]) -> Option<Task>
     }
 }
 
+fn protected_named(name: &str) -> Option<Protected>
+    ensures { result ≡ protected_named name.now }
+{
+    match name {
+        "rf" => Some(Protected::Registers),
+        "cdata" => Some(Protected::Data),
+        "both" => Some(Protected::Both),
+        _ => None,
+    }
+}
+
+// PROTECTED.
+fn due_words(words: &[String]) -> Option<Task>
+    ensures { result ≡ due_words (texts words.now) }
+{
+    match words {
+        [name] => Some(Task::Due(protected_named(name.as_str())?)),
+        _ => None,
+    }
+}
+
 // The task of this name, with the words behind IMAGE and BUDGET. One line each.
 fn task_named(name: &str, words: &[String]) -> Option<Task>
     ensures is { result ≡ task_in tasks name.now (texts words.now) }
@@ -179,6 +210,7 @@ fn task_named(name: &str, words: &[String]) -> Option<Task>
         "csv" => alone(words, Task::Csv),
         "plan" => plan_words(words),
         "campaign" => campaign_words(words),
+        "due" => due_words(words),
         "query" => query_words(words),
         "flip" => flip_words(words),
         _ => None,

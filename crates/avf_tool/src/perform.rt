@@ -11,6 +11,7 @@ ghost use Rattle.avf_tool.specs.Words.{Assemble, Bench, IsDoable, IsMakeable, Is
 use crate::bits::{flip_answer, query_answer};
 use crate::campaigns::campaign_answer;
 use crate::command::{BenchCommand, Command, ImageCommand, Task};
+use crate::parity::parity_answer;
 use crate::reports::{csv_answer, plan_answer, report_answer};
 use crate::stages::{
     IMAGE_LIMIT, assemble_source, generate_image, load_image, read_image, read_source, run_image,
@@ -68,7 +69,7 @@ fn task_answer<L: Ledger, M: Ledger>(
     requires program { IsProgram run }
     requires task { IsTask task }
     ensures text { IsText (task_answer task run.entry) result }
-    ensures steps { tells_of_one_run task ≡ true → steps.new ≤ steps.old + run.entry.cycles }
+    ensures steps { tells_of_one_run task ≡ true → steps.new ≤ steps.old + 2 * run.entry.cycles }
     ensures applies { applies.new ≤ applies.old + 34 * run.entry.instructions }
 {
     match task {
@@ -78,6 +79,7 @@ fn task_answer<L: Ledger, M: Ledger>(
         Task::Csv => csv_answer(alloc, run, steps, applies),
         Task::Plan(bits) => plan_answer(alloc, bits, run, steps, applies),
         Task::Campaign(asked) => campaign_answer(alloc, &asked, run, steps, applies),
+        Task::Due(protected) => parity_answer(alloc, protected, run, steps, applies),
         Task::Query(asked) => query_answer(alloc, &asked, run, steps, applies),
         Task::Flip(asked) => flip_answer(alloc, &asked, &run, steps),
     }
