@@ -1,5 +1,3 @@
-mod Sums
-mod Tallies
 mod BitClasses
 mod Rows
 pub mod OneCount

@@ -10,7 +10,7 @@ use Rattle.ace_class.specs.Counts.{Counted, place_of, row_of, structures}
 use Rattle.ace_rules.specs.Notes.{Story}
 use Rattle.ace_count.specs.RunCounts.{AreCounts, HasClass, IsRowOf}
 use Rattle.ace_count.proofs.BitClasses.{one_each}
-use Rattle.ace_count.proofs.Tallies.{tally-one}
+use Rattle.ace_rules.proofs.Tallies.{tally-one}
 
 at : ℕ → Structure
 at i = slice_index_or structures i Pc

@@ -12,7 +12,7 @@ use Rattle.ace_class.specs.Counts.{Counted, IsCounted, place_of, structures}
 use Rattle.run_record.specs.Run.{IsRecord}
 use Rattle.ace_rules.specs.Notes.{Story}
 use Rattle.ace_count.specs.RunCounts.{AreCounts, HasClass, IsRowOf}
-use Rattle.ace_count.proofs.Tallies.{tally-all}
+use Rattle.ace_rules.proofs.Tallies.{tally-all}
 
 at-place : (s d : Structure) → slice_index_or structures (place_of s) d ≡ s
 at-place Pc d = refl

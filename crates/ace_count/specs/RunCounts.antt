@@ -6,7 +6,7 @@ use Rattle.ace_class.specs.Counts.{Counted, row_of, structures}
 use Rattle.ace_class.specs.declared.class.Class.{Class}
 use Rattle.ace_law.specs.Classes.{IsClass}
 use Rattle.ace_rules.specs.Notes.{Story, moment}
-use Rattle.ace_count.specs.Tallies.{IsTally}
+use Rattle.ace_rules.specs.Tallies.{IsTally}
 
 -- this is the class of a structure's bit in a cycle
 abbrev pub HasClass : Story → Structure → ℕ → ℕ → Class → Type 0

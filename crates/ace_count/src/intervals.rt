@@ -2,7 +2,7 @@
 ghost use Rattle.std.specs.Prelude.{◌≡◌, ◌<◌, ◌≤◌, ◌+◌, ◌^◌, ℕ, slice_index};
 ghost use Rattle.bit_field.specs.Shapes.{IsPlaceIn};
 ghost use Rattle.ace_count.specs.RunCounts.{HasClass, IsRowOf};
-ghost use Rattle.ace_count.specs.Tallies.{IsAdded};
+ghost use Rattle.ace_rules.specs.Tallies.{IsAdded};
 
 use ace_class::CLASSES;
 use ace_rules::Analysis;

@@ -1,6 +1,6 @@
 -- Runs that are bound to end: what every cycle keeps, and what bounds the actions that are done, gives the end within so many cycles.
-use Rattle.std.proofs.Common.{◌≡◌, ◌≤◌, ◌<◌, ◌+◌, ◌*◌, ◌-◌, ◌++◌, ℕ, zero, suc, Bool, true, false, List, [], ◌∷◌, length, arith, refl, ap, sym, ◌∙◌}
-use Rattle.std.proofs.Common.{append-nil, append_assoc}
+use Rattle.std.proofs.Common.{◌≡◌, ◌≤◌, ◌<◌, ◌+◌, ◌*◌, ◌-◌, ◌++◌, ℕ, zero, suc, Bool, true, false, List, length, arith, refl, ap, sym, ◌∙◌}
+use Rattle.std.proofs.Common.{append-nil}
 use Rattle.std.specs.Prelude.{Option, None, Some, nat_lt, if◌then◌else◌}
 use Rattle.std.proofs.lemmas.Bool.Decides.{nat_tests}
 use Rattle.avf_base.specs.declared.end.End.{End}
@@ -18,6 +18,7 @@ use Rattle.flush_view.specs.Progress.{LeavesWithin}
 use Rattle.flush_view.proofs.Flush.Counts.{flush-leaves}
 use Rattle.flush_view.proofs.Progress.ProgressLaw.{progress}
 use Rattle.flush_view.proofs.Run.RunCounts.{put_by}
+use Rattle.run_record.proofs.Noted.{with_behind}
 
 -- ---- the log of so many cycles
 
@@ -32,17 +33,13 @@ log-counts (suc n) s log =
     flush-leaves (state_after n s) (log_after n s log)
     ∙ one_more (retires (state_after n s)) (length (log_after n s log).actions) (length log.actions) (retired_after n s) (log-counts n s log)
 
-one_behind : (xs ys : List ℕ) (o : Option ℕ) → with_one (xs ++ ys) o ≡ xs ++ with_one ys o
-one_behind xs ys (Some x) = append_assoc xs ys (x ∷ [])
-one_behind xs ys None = refl
-
 pub log-puts : (n : ℕ) (s : State) (log : Log) → (log_after n s log).output ≡ log.output ++ output_after n s
 unfolding log_after output_after
 log-puts zero s log = sym (append-nil log.output)
 log-puts (suc n) s log =
     ap (λ (xs : List ℕ). with_byte xs (byte_put (done_in (state_after n s)))) (log-puts n s log)
     ∙ put_by (state_after n s).image (action_in_m (state_after n s)) _ _ (log.output ++ output_after n s)
-    ∙ one_behind log.output (output_after n s) (put_in (state_after n s))
+    ∙ with_behind log.output (output_after n s) (put_in (state_after n s))
 
 -- an ending cycle puts nothing
 no_byte : (m : Action) (end : End) → end_of m ≡ Some end → byte_put m ≡ None

@@ -1,5 +1,5 @@
 -- The first of the tests that is true gives the class.
-use Rattle.std.proofs.Common.{◌≡◌, ◌<◌, ◌==◌, ℕ, suc, Bool, true, false, Decides, if◌then◌else◌, inl, inr, arith, refl, ap, sym, subst, ◌∙◌}
+use Rattle.std.proofs.Common.{◌<◌, ℕ, suc, Bool, true, false, Decides, if◌then◌else◌, inl, inr, arith, refl, subst}
 use Rattle.std.proofs.lemmas.Bool.{cases_lt}
 use Rattle.bit_field.specs.declared.places.Place.{Place}
 use Rattle.ace_class.specs.Classes.{number_of}
@@ -8,61 +8,11 @@ use Rattle.ace_class.specs.declared.class.Class.TheVariants.{Ace, UnAce}
 use Rattle.ace_class.specs.declared.class.Rule.{Rule}
 use Rattle.ace_class.specs.declared.class.Rule.TheVariants.{Timing, EmptyPlace, WrongPath, OnPath, Masked, DeadRegister, DeadData, StoreRedirection}
 use Rattle.ace_class.specs.declared.class.Rule.TheVariants.{CleanData, CleanLine, UnaccessedLine, CleanTag, NoTrapCause}
+use Rattle.ace_class.proofs.Numbers.{same_rule, within}
 use Rattle.ace_law.specs.Classes.{Holds, IsClass}
 use Rattle.ace_law.specs.Moments.{Moment}
 use Rattle.ace_rules.specs.FirstRules.{AreTests, class_by}
 use Rattle.ace_rules.specs.declared.first_rule.RuleTests.{RuleTests}
-
--- the rule of a number
-rule_of : ℕ → Rule
-rule_of n =
-    if n == 1 then Timing
-    else (if n == 2 then EmptyPlace
-    else (if n == 3 then WrongPath
-    else (if n == 4 then OnPath
-    else (if n == 5 then Masked
-    else (if n == 6 then DeadRegister
-    else (if n == 7 then DeadData
-    else (if n == 8 then StoreRedirection
-    else (if n == 9 then CleanData
-    else (if n == 10 then CleanLine
-    else (if n == 11 then UnaccessedLine
-    else (if n == 12 then CleanTag
-    else NoTrapCause)))))))))))
-
-rule-number : (rule : Rule) → rule_of (number_of rule) ≡ rule
-unfolding rule_of
-rule-number Timing = refl
-rule-number EmptyPlace = refl
-rule-number WrongPath = refl
-rule-number OnPath = refl
-rule-number Masked = refl
-rule-number DeadRegister = refl
-rule-number DeadData = refl
-rule-number StoreRedirection = refl
-rule-number CleanData = refl
-rule-number CleanLine = refl
-rule-number UnaccessedLine = refl
-rule-number CleanTag = refl
-rule-number NoTrapCause = refl
-
-same-rule : (r other : Rule) → number_of r ≡ number_of other → r ≡ other
-same-rule r other e = sym (rule-number r) ∙ ap rule_of e ∙ rule-number other
-
-within : (rule : Rule) → (0 < number_of rule) × (number_of rule < 14)
-within Timing = (omega arith, omega arith)
-within EmptyPlace = (omega arith, omega arith)
-within WrongPath = (omega arith, omega arith)
-within OnPath = (omega arith, omega arith)
-within Masked = (omega arith, omega arith)
-within DeadRegister = (omega arith, omega arith)
-within DeadData = (omega arith, omega arith)
-within StoreRedirection = (omega arith, omega arith)
-within CleanData = (omega arith, omega arith)
-within CleanLine = (omega arith, omega arith)
-within UnaccessedLine = (omega arith, omega arith)
-within CleanTag = (omega arith, omega arith)
-within NoTrapCause = (omega arith, omega arith)
 
 -- a test of a rule that never holds of the bit
 pub never : {P : Type 0} → (P → ⊥) → Decides false P
@@ -77,7 +27,7 @@ module _ (a : Moment) (p : Place) where
   more rule below not_this other l h =
       elim (cases_lt (number_of other) (number_of rule)) [
         | inl m ↦ below other m h
-        | inr m ↦ not_this (subst (λ (r : Rule). Holds r a p) (same-rule other rule (omega (arith, l, m))) h)
+        | inr m ↦ not_this (subst (λ (r : Rule). Holds r a p) (same_rule other rule (omega (arith, l, m))) h)
       ]
 
   first : (rule : Rule) (b : Bool) (rest : Class) → Decides b (Holds rule a p) → NoneBelow (number_of rule)

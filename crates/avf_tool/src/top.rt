@@ -82,6 +82,13 @@ fn refuse<E: Sink>(alloc: Global, refusal: Refusal, err: &mut E) -> Refusal
                 format!(in alloc; "avf: bad source {line} {cause}\n"),
             );
         }
+        Refusal::BadMap { line, cause } => {
+            return say_made(
+                err,
+                refusal,
+                format!(in alloc; "avf: bad map {line} {cause}\n"),
+            );
+        }
     }
     refusal
 }

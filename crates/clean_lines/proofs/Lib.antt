@@ -3,15 +3,15 @@
 -- cycle. Data bits: OtherBytes, BytesRead (what a load takes), DataMoves (what a move makes of the cache), DataCycles, DataRuns. Tag bits:
 -- OtherTags, TagMoves, TagCycles, TagRuns. Alike, Law: what it comes to.
 mod Alike
-mod BytesRead
+pub mod BytesRead
 mod DataCycles
-mod DataMoves
+pub mod DataMoves
 mod DataRuns
 pub mod Law
-mod Lists
-mod Moves
-mod OtherBytes
-mod OtherCache
+pub mod Lists
+pub mod Moves
+pub mod OtherBytes
+pub mod OtherCache
 mod OtherTags
 mod Stays
 mod TagCycles

@@ -1,7 +1,6 @@
 -- A flipped run that is compared cycle by cycle has the verdict that is its own.
-use Rattle.std.proofs.Common.{◌≡◌, ℕ, ◌+◌, ◌-◌, ◌<◌, ◌≤◌, List, [], ◌∷◌, ◌++◌, length, take, Option, None, Some, refl, sym, ap, ◌∙◌, subst, arith, inl, inr}
-use Rattle.std.proofs.Common.{add-one, append-nil, append_assoc, false, length-append}
-use Rattle.std.proofs.Math.Seq.{take-append_seam}
+use Rattle.std.proofs.Common.{◌≡◌, ℕ, ◌+◌, ◌-◌, ◌<◌, ◌≤◌, List, ◌++◌, length, take, None, Some, refl, sym, ap, ◌∙◌, subst, arith, inl, inr}
+use Rattle.std.proofs.Common.{add-one, append-nil, false, length-append}
 use Rattle.std.proofs.lemmas.Bool.{cases_eq}
 use Rattle.std.proofs.lemmas.List.{length-take-le}
 use Rattle.bit_field.specs.Shapes.{IsPlaceIn}
@@ -17,12 +16,11 @@ use Rattle.run_record.specs.Run.{IsRecord, RecordedRun}
 use Rattle.run_record.specs.Verdict.{GoesOn, IsFront, IsVerdict, bound, flipped, output_since}
 use Rattle.run_record.specs.declared.verdict.Verdict.{Verdict}
 use Rattle.run_record.specs.declared.verdict.Verdict.TheVariants.{Same, Differs, NoEnd}
+use Rattle.run_record.proofs.Noted.{with_behind}
+use Rattle.run_record.proofs.Verdicts.{front_of}
 use Rattle.flip_replay.specs.Comparison.{AreFirst, IsCompared, with_put}
 use Rattle.flip_replay.proofs.Flips.{course}
 use Rattle.flip_replay.proofs.Follows.{Follows, follows-end, follows-first, follows-on}
-
-front_of : (bytes more all : List ℕ) → all ≡ bytes ++ more → bytes ≡ take (length bytes) all
-front_of bytes more all e = sym (ap (take (length bytes)) e ∙ take-append_seam bytes more)
 
 long_of : (bytes more all : List ℕ) → all ≡ bytes ++ more → length bytes ≤ length all
 long_of bytes more all e = let same = ap length e in let sum = length-append bytes more in omega (arith, same, sum)
@@ -36,10 +34,6 @@ recorded_first r t matched is l e =
     let all : r.output ≡ output_after t s ++ output_after (r.cycles - t) (state_after t s)
     = is.output ∙ ap (λ n. output_after n s) (omega (arith, l)) ∙ on in
     subst (AreFirst r (output_after t s)) (sym e) (front_of _ _ _ all, long_of _ _ _ all)
-
-with_behind : (xs ys : List ℕ) (o : Option ℕ) → with_one (xs ++ ys) o ≡ xs ++ with_one ys o
-with_behind xs ys None = refl
-with_behind xs ys (Some x) = append_assoc xs ys (x ∷ [])
 
 -- the first of the recorded bytes, and no others
 front-first : (r : RecordedRun) (bytes : List ℕ) (matched : ℕ) → AreFirst r bytes matched → IsFront r bytes

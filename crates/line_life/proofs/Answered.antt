@@ -13,9 +13,11 @@ use Rattle.wb_cache.specs.declared.event.EventKind.TheVariants.{Read, Write, Mis
 use Rattle.event_log.specs.Cycles as cycles
 use Rattle.event_log.specs.Events.{IsEventLog, cycles_of, first_event, holds_byte, is_of_slot}
 use Rattle.event_log.proofs.Logs.{earlier, find-shown, first-cycles, first-either, first-passes, rising-cycles, rising-shown}
-use Rattle.line_life.specs.Lives.{IsLifeOf, IsLives, IsRising, Lives, change_of, changes_slot, first_change, is_read, next_in, reads_byte, sooner}
+use Rattle.line_life.specs.Lives.{IsLifeOf, IsLives, Lives, change_of, changes_slot, is_read, next_in, reads_byte, sooner}
 use Rattle.event_log.specs.Nexts.{concerns, concerns_by, next_of, told_by}
-use Rattle.line_life.specs.declared.changes.Change.{Change}
+use Rattle.change_list.specs.Lists as lists
+use Rattle.change_list.specs.declared.changes.Change.{Change}
+use Rattle.line_life.specs.declared.changes.Effect.{Effect}
 use Rattle.event_log.specs.declared.next.Next.TheVariants.{Ends}
 use Rattle.line_life.proofs.Noted.{IsNoted, changes_at, changes_of, reads_at}
 
@@ -57,16 +59,16 @@ sooner-is shape l byte (Some d) (Some e) h = go (nat_lt e.cycle d.cycle)
     go true = refl
     go false = sym (told-read d.kind (is_of_slot shape l d) (holds_byte byte d) d.cycle h)
 
-first-change : (test : CacheEvent → Bool) (t : ℕ) (es : List CacheEvent) → first_change t (changes_of test es) ≡ option_map change_of (first_event test t es)
-unfolding first_change changes_of first_event
+first-change : (test : CacheEvent → Bool) (t : ℕ) (es : List CacheEvent) → lists.first_from t (changes_of test es) ≡ option_map change_of (first_event test t es)
+unfolding lists.first_from changes_of first_event
 first-change test t es = find-shown change_of (λ c. nat_le t c.cycle) test es
 
-rising-changes : (test : CacheEvent → Bool) (es : List CacheEvent) → AllPairs (λ d e. d.cycle < e.cycle) es → IsRising (changes_of test es)
+rising-changes : (test : CacheEvent → Bool) (es : List CacheEvent) → AllPairs (λ d e. d.cycle < e.cycle) es → lists.IsRising (changes_of test es)
 unfolding changes_of
-rising-changes test es h = rising-shown (λ (e : CacheEvent). e.cycle) (λ (c : Change). c.cycle) change_of (λ e. refl) test es h
+rising-changes test es h = rising-shown (λ (e : CacheEvent). e.cycle) (λ (c : Change Effect). c.cycle) change_of (λ e. refl) test es h
 
 -- the lists of all events
-module _ (shape : Shape) (events : List CacheEvent) (ends : ℕ) (reads : List (List ℕ)) (changes : List (List Change)) (is : IsShape shape)
+module _ (shape : Shape) (events : List CacheEvent) (ends : ℕ) (reads : List (List ℕ)) (changes : List (List (Change Effect))) (is : IsShape shape)
     (log : IsEventLog shape events) (noted : IsNoted shape events (length events) reads changes) where
   abbrev life : Lives
   life = record { shape = shape; cycles = ends; reads = reads; changes = changes }
@@ -86,8 +88,8 @@ module _ (shape : Shape) (events : List CacheEvent) (ends : ℕ) (reads : List (
       let rs : cycles.first_from t (get_or reads (16 * l + byte) [])
       ≡ option_map (λ e. e.cycle) (first_event (λ e. is_of_slot shape l e && reads_byte byte e) t events) = ap (cycles.first_from t)
       (read-all (16 * l + byte) k) ∙ first-cycles (reads_at shape (16 * l + byte)) t events ∙ rw (at, of) refl in
-      let cs : first_change t (get_or changes l [])
-      ≡ option_map change_of (first_event (changes_at shape l) t events) = ap (first_change t) (change-all l h)
+      let cs : lists.first_from t (get_or changes l [])
+      ≡ option_map change_of (first_event (changes_at shape l) t events) = ap (lists.first_from t) (change-all l h)
       ∙ first-change (changes_at shape l) t events in
       rw (rs, cs, first-concern shape l byte t events log.rising)
       (sooner-is shape l byte (first_event (λ e. is_of_slot shape l e && reads_byte byte e) t events) (first_event (changes_at shape l) t events)

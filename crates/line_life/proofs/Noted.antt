@@ -8,7 +8,8 @@ use Rattle.wb_cache.specs.declared.event.CacheEvent.{CacheEvent}
 use Rattle.event_log.specs.Events.{cycles_of, holds_byte, is_of_slot}
 use Rattle.event_log.proofs.Logs.{cycles-more, shown-more}
 use Rattle.line_life.specs.Lives.{change_of, is_change, reads_byte}
-use Rattle.line_life.specs.declared.changes.Change.{Change}
+use Rattle.change_list.specs.declared.changes.Change.{Change}
+use Rattle.line_life.specs.declared.changes.Effect.{Effect}
 
 -- after the bytes below `byte`, a read has added its cycle to those that it holds
 pub record IsReadSoFar (slot byte : ℕ) (e : CacheEvent) (old new : List (List ℕ)) : Type 0 where
@@ -23,11 +24,11 @@ reads_at shape k e = is_of_slot shape (k / 16) e && reads_byte (k % 16) e
 abbrev pub changes_at : Shape → ℕ → CacheEvent → Bool
 changes_at shape l e = is_of_slot shape l e && is_change e
 
-unfoldable pub changes_of : (CacheEvent → Bool) → List CacheEvent → List Change
+unfoldable pub changes_of : (CacheEvent → Bool) → List CacheEvent → List (Change Effect)
 changes_of test events = map change_of (filter test events)
 
 -- the lists once the first n events are noted
-pub record IsNoted (shape : Shape) (events : List CacheEvent) (n : ℕ) (reads : List (List ℕ)) (changes : List (List Change)) : Type 0 where
+pub record IsNoted (shape : Shape) (events : List CacheEvent) (n : ℕ) (reads : List (List ℕ)) (changes : List (List (Change Effect))) : Type 0 where
   pub bytes : length reads ≡ 16 * slots shape
   pub places : length changes ≡ slots shape
   pub read : (k : ℕ) → k < 16 * slots shape → get_or reads k [] ≡ cycles_of (reads_at shape k) (take n events)
@@ -48,7 +49,7 @@ unfolding changes_of
 changes-more test es n e l h = shown-more change_of test es n e l h
 
 -- one event more
-pub noted-more : (shape : Shape) (events : List CacheEvent) (n slot : ℕ) (e : CacheEvent) (rs ss : List (List ℕ)) (cs ds : List (List Change)) →
+pub noted-more : (shape : Shape) (events : List CacheEvent) (n slot : ℕ) (e : CacheEvent) (rs ss : List (List ℕ)) (cs ds : List (List (Change Effect))) →
     n < length events → e ≡ get_or events n e → slot ≡ shape.ways * e.set + e.way → length ss ≡ length rs → length ds ≡ length cs
     → ((k : ℕ) → get_or ss k [] ≡ cond (slot == k / 16 && reads_byte (k % 16) e) (get_or rs k [] ++ e.cycle ∷ []) (get_or rs k []))
     → ((l : ℕ) → get_or ds l [] ≡ cond (slot == l && is_change e) (get_or cs l [] ++ change_of e ∷ []) (get_or cs l []))

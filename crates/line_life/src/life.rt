@@ -8,9 +8,10 @@ ghost use Rattle.event_log.specs.Events.{IsEventLog};
 ghost use Rattle.line_life.specs.Lives as lives;
 ghost use Rattle.line_life.specs.Lives.{IsLifeOf, change_of};
 
-use crate::changes::{Change, ChangeList, holds_byte, told};
+use crate::changes::{Effect, effect_of, holds_byte, told};
 use avf_base::OutOfMemory;
 use bit_field::Shape;
+use change_list::{Change, ChangeList, empty_lists};
 use event_log::{CycleList, Next, slot_count, slot_number};
 use std::alloc::Global;
 use std::marker::Model;
@@ -22,7 +23,7 @@ pub struct Life {
     shape: Shape,
     cycles: u32,
     reads: Vec<CycleList>,
-    changes: Vec<ChangeList>,
+    changes: Vec<ChangeList<Effect>>,
 }
 
 impl Model for Life {
@@ -54,7 +55,7 @@ impl Life {
 }
 
 /// Of the next read of a byte and the next change of its slot the one that comes first.
-fn sooner(byte: u32, read: Option<u32>, change: Option<Change>) -> Next
+fn sooner(byte: u32, read: Option<u32>, change: Option<Change<Effect>>) -> Next
     ensures { result ≡ lives.sooner byte read change }
 {
     match (read, change) {
@@ -82,17 +83,6 @@ fn no_reads(alloc: Global, count: u32) -> Result<Vec<CycleList>, OutOfMemory>
     Ok(reads)
 }
 
-/// So many lists without a change.
-fn no_changes(alloc: Global, count: u32) -> Result<Vec<ChangeList>, OutOfMemory>
-    ensures { IfOk result (λ v. v.items ≡ replicate count []) }
-{
-    let mut changes = Vec::new(alloc);
-    for _slot in 0..count {
-        changes.push(ChangeList::new(alloc))?;
-    }
-    Ok(changes)
-}
-
 /// Notes a read: its cycle goes behind the lists of the bytes that it holds.
 fn note_read(reads: &mut [CycleList], slot: usize, event: &CacheEvent) -> Result<(), OutOfMemory>
     requires { 16 * slot + 16 ≤ length reads.old }
@@ -108,20 +98,20 @@ fn note_read(reads: &mut [CycleList], slot: usize, event: &CacheEvent) -> Result
 
 /// Notes a write or a fill: it goes behind the changes of its slot.
 fn note_change(
-    changes: &mut [ChangeList],
+    changes: &mut [ChangeList<Effect>],
     slot: usize,
     event: &CacheEvent,
 ) -> Result<(), OutOfMemory>
     requires { slot < length changes.old }
     ensures { OnOk result ((l : ℕ) → slice_index_or changes.new l [] ≡ pushed_if (slot == l) (change_of event.now) (slice_index_or changes.old l [])) }
 {
-    changes[slot].push(event)
+    changes[slot].push(event.cycle, effect_of(event))
 }
 
 /// Notes an event of a line slot in the lists.
 fn note(
     reads: &mut [CycleList],
-    changes: &mut [ChangeList],
+    changes: &mut [ChangeList<Effect>],
     slot: usize,
     event: &CacheEvent,
 ) -> Result<(), OutOfMemory>
@@ -152,7 +142,7 @@ pub fn data_life(
     ensures { IfOk result (λ life. IsLifeOf events.now shape.now cycles life) }
 {
     let mut reads = no_reads(alloc, 16 * slot_count(shape))?;
-    let mut changes = no_changes(alloc, slot_count(shape))?;
+    let mut changes = empty_lists(alloc, slot_count(shape))?;
     for event in events {
         let slot = slot_number(shape, event.set, event.way) as usize;
         note(&mut reads, &mut changes, slot, event)?;

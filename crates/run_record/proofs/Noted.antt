@@ -26,7 +26,7 @@ with_dropped : (p : ℕ → Bool) (xs : List ℕ) (x : ℕ) (b : Bool) → p x �
 with_dropped p xs x true e = filter-append p xs (x ∷ []) ∙ ap (λ c. filter p xs ++ c) (rw e refl) ∙ append-nil (filter p xs)
 with_dropped p xs x false e = refl
 
-with_behind : (xs ys : List ℕ) (o : Option ℕ) → with_one (xs ++ ys) o ≡ xs ++ with_one ys o
+pub with_behind : (xs ys : List ℕ) (o : Option ℕ) → with_one (xs ++ ys) o ≡ xs ++ with_one ys o
 with_behind xs ys None = refl
 with_behind xs ys (Some x) = append_assoc xs ys (x ∷ [])
 

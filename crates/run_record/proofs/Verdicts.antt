@@ -52,7 +52,8 @@ output_grows u n zero m e =
 output_grows u n (suc d) zero e = absurd (omega (arith, e))
 output_grows u n (suc d) (suc m) e = grows-on _ _ _ (output_grows u n d m (omega (arith, e))) (one_more (output_after m u) (put_in (state_after m u)))
 
-front_of : (bytes more all : List ℕ) → all ≡ bytes ++ more → bytes ≡ take (length bytes) all
+-- the bytes that others follow are the first of all
+pub front_of : (bytes more all : List ℕ) → all ≡ bytes ++ more → bytes ≡ take (length bytes) all
 front_of bytes more all e = sym (ap (take (length bytes)) e ∙ take-append_seam bytes more)
 
 module _ (r : RecordedRun) (t : ℕ) (u : State) where

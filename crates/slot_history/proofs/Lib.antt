@@ -1,3 +1,3 @@
-pub mod Lists
+pub mod Shown
 pub mod Noted
 pub mod Runs

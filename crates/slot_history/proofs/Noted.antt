@@ -18,12 +18,13 @@ use Rattle.cyc_machine.specs.EventsLaw as machine
 use Rattle.cyc_machine.specs.EventsLaw.{held_after, held_behind, held_by}
 use Rattle.event_log.specs.Events.{IsEventLog}
 use Rattle.slot_history.specs.HeldBefore.{IsSlotTable, held_before, told}
-use Rattle.slot_history.specs.Histories.{Histories, IsHistories, IsRising, held_at, held_from, held_in}
+use Rattle.slot_history.specs.Histories.{Histories, IsHistories, held_at, held_in}
 use Rattle.slot_history.specs.Notes.{changed, is_dirty, latest, noted_by, noted_if}
-use Rattle.slot_history.specs.declared.changes.Change.{Change}
+use Rattle.change_list.specs.Lists.{IsRising, change, value_before}
+use Rattle.change_list.specs.declared.changes.Change.{Change}
 use Rattle.slot_history.specs.declared.changes.Held.{Held}
 use Rattle.slot_history.specs.declared.changes.Held.TheVariants.{Vacant, Clean, Dirty}
-use Rattle.slot_history.proofs.Lists.{all-before, push-earlier, push-later}
+use Rattle.change_list.proofs.Grown.{all-before, push-earlier, push-later}
 
 -- ---- what the events tell, with one event more
 
@@ -52,7 +53,7 @@ before-more shape l t es n e below at =
 -- ---- a list with one event more of its slot
 
 -- what is asked of it: what the list says before cycle t, by what it said
-abbrev pub Says : EventKind → ℕ → ℕ → List Change → List Change → ℕ → Type 0
+abbrev pub Says : EventKind → ℕ → ℕ → List (Change Held) → List (Change Held) → ℕ → Type 0
 Says kind cycle line old new t = told (held_at new t) ≡ cond (ltb cycle t) (held_by kind line (told (held_at old t))) (told (held_at old t))
 
 same-said : (b : Bool) (h : machine.Held) → h ≡ cond b h h
@@ -60,16 +61,16 @@ same-said true h = refl
 same-said false h = refl
 
 -- a change behind the others
-says-changed : (kind : EventKind) (cycle line : ℕ) (held : Held) (old : List Change) (t : ℕ) → All (λ c. c.cycle < cycle) old
+says-changed : (kind : EventKind) (cycle line : ℕ) (held : Held) (old : List (Change Held)) (t : ℕ) → All (λ c. c.cycle < cycle) old
     → ((h : machine.Held) → told held ≡ held_by kind line h) → Says kind cycle line old (changed cycle held old) t
 says-changed kind cycle line held old t below is =
     elim (cases_lt cycle t) [
       | inl m ↦
           let e : ltb cycle t ≡ true = grind (arith, nat_tests) in
-          rw e (ap told (push-later Vacant old (record { cycle = cycle; held = held }) t below m) ∙ is (told (held_at old t)))
+          rw e (ap told (push-later Vacant old (change cycle held) t below m) ∙ is (told (held_at old t)))
       | inr m ↦
           let e : ltb cycle t ≡ false = grind (arith, nat_tests) in
-          rw e (ap told (push-earlier Vacant old (record { cycle = cycle; held = held }) t m))
+          rw e (ap told (push-earlier Vacant old (change cycle held) t m))
     ]
 
 -- no change, where the slot holds the line, dirty
@@ -78,7 +79,7 @@ dirty-is Vacant line h = absurd cc
 dirty-is (Clean n) line h = absurd cc
 dirty-is (Dirty n) line h = let e : n ≡ line = grind (arith, nat_tests) in ap machine.Held.Dirty e
 
-says-dirty : (cycle line : ℕ) (old : List Change) (t : ℕ) → All (λ c. c.cycle < cycle) old → is_dirty (latest old) line ≡ true
+says-dirty : (cycle line : ℕ) (old : List (Change Held)) (t : ℕ) → All (λ c. c.cycle < cycle) old → is_dirty (latest old) line ≡ true
     → Says Write cycle line old old t
 says-dirty cycle line old t below dirty =
     elim (cases_lt cycle t) [
@@ -88,12 +89,12 @@ says-dirty cycle line old t below dirty =
       | inr m ↦ let e : ltb cycle t ≡ false = grind (arith, nat_tests) in rw e refl
     ]
 
-says-written : (cycle line : ℕ) (old : List Change) (t : ℕ) (b : Bool) → is_dirty (latest old) line ≡ b → All (λ c. c.cycle < cycle) old
+says-written : (cycle line : ℕ) (old : List (Change Held)) (t : ℕ) (b : Bool) → is_dirty (latest old) line ≡ b → All (λ c. c.cycle < cycle) old
     → Says Write cycle line old (cond b old (changed cycle (Dirty line) old)) t
 says-written cycle line old t true dirty below = says-dirty cycle line old t below dirty
 says-written cycle line old t false dirty below = says-changed Write cycle line (Dirty line) old t below (λ h. refl)
 
-says-noted : (kind : EventKind) (cycle line : ℕ) (old : List Change) (t : ℕ) → All (λ c. c.cycle < cycle) old
+says-noted : (kind : EventKind) (cycle line : ℕ) (old : List (Change Held)) (t : ℕ) → All (λ c. c.cycle < cycle) old
     → Says kind cycle line old (noted_by kind cycle line old) t
 says-noted Read cycle line old t below = same-said (ltb cycle t) (told (held_at old t))
 says-noted Write cycle line old t below = says-written cycle line old t (is_dirty (latest old) line) refl below
@@ -101,12 +102,12 @@ says-noted Miss cycle line old t below = same-said (ltb cycle t) (told (held_at 
 says-noted Fill cycle line old t below = says-changed Fill cycle line (Clean line) old t below (λ h. refl)
 
 -- what holds of a list, and of the same list with a change of that cycle behind it, holds after an event
-kept-written : (P : List Change → Type 0) (cycle line : ℕ) (old : List Change) (b : Bool) → P old → ((held : Held) → P (changed cycle held old))
+kept-written : (P : List (Change Held) → Type 0) (cycle line : ℕ) (old : List (Change Held)) (b : Bool) → P old → ((held : Held) → P (changed cycle held old))
     → P (cond b old (changed cycle (Dirty line) old))
 kept-written P cycle line old true before more = before
 kept-written P cycle line old false before more = more (Dirty line)
 
-kept-noted : (P : List Change → Type 0) (kind : EventKind) (cycle line : ℕ) (old : List Change) → P old → ((held : Held) → P (changed cycle held old))
+kept-noted : (P : List (Change Held) → Type 0) (kind : EventKind) (cycle line : ℕ) (old : List (Change Held)) → P old → ((held : Held) → P (changed cycle held old))
     → P (noted_by kind cycle line old)
 kept-noted P Read cycle line old before more = before
 kept-noted P Write cycle line old before more = kept-written P cycle line old (is_dirty (latest old) line) before more
@@ -117,17 +118,17 @@ kept-noted P Fill cycle line old before more = more (Clean line)
 
 -- One list, of slot l, once the first n events are noted: its changes rise, they come before the cycles of the events that follow,
 -- and it says what the events tell.
-pub record IsToldOf (shape : Shape) (events : List CacheEvent) (n l : ℕ) (changes : List Change) : Type 0 where
+pub record IsToldOf (shape : Shape) (events : List CacheEvent) (n l : ℕ) (changes : List (Change Held)) : Type 0 where
   pub rising : IsRising changes
   pub earlier : (k : ℕ) (d : CacheEvent) → n ≤ k → k < length events → All (λ c. c.cycle < (get_or events k d).cycle) changes
   pub held : (t : ℕ) → told (held_at changes t) ≡ held_before shape l t (take n events)
 
-pub record IsNoted (shape : Shape) (events : List CacheEvent) (n : ℕ) (lists : List (List Change)) : Type 0 where
+pub record IsNoted (shape : Shape) (events : List CacheEvent) (n : ℕ) (lists : List (List (Change Held))) : Type 0 where
   pub places : length lists ≡ slots shape
   pub list : (l : ℕ) → l < slots shape → IsToldOf shape events n l (get_or lists l [])
 
 nothing-told : (shape : Shape) (events : List CacheEvent) (l : ℕ) → IsToldOf shape events 0 l []
-unfolding held_from held_before held_behind
+unfolding value_before held_before held_behind
 nothing-told shape events l = record {
   rising = λ i j d m o. absurd (omega arith);
   earlier = λ k d m o. All-nil _;
@@ -137,11 +138,11 @@ nothing-told shape events l = record {
 pub noted-none : (shape : Shape) (events : List CacheEvent) → IsNoted shape events 0 (replicate (slots shape) [])
 noted-none shape events = record {
   places = length-replicate (slots shape) [];
-  list = λ l m. rw (get_or-replicate {A = List Change} (slots shape) l [] [] m) (nothing-told shape events l);
+  list = λ l m. rw (get_or-replicate {A = List (Change Held)} (slots shape) l [] [] m) (nothing-told shape events l);
 }
 
 -- the next event
-module _ (shape : Shape) (events : List CacheEvent) (n : ℕ) (e : CacheEvent) (l : ℕ) (old : List Change) (log : IsEventLog shape events)
+module _ (shape : Shape) (events : List CacheEvent) (n : ℕ) (e : CacheEvent) (l : ℕ) (old : List (Change Held)) (log : IsEventLog shape events)
     (below : n < length events) (at : e ≡ get_or events n e) (so_far : IsToldOf shape events n l old) where
   here : (d : CacheEvent) → get_or events n d ≡ e
   here d = get_or_default events n d e below ∙ sym at
@@ -156,10 +157,10 @@ module _ (shape : Shape) (events : List CacheEvent) (n : ℕ) (e : CacheEvent) (
   more true is = record {
     rising =
         kept-noted IsRising e.kind e.cycle e.line old so_far.rising
-        (λ held. all_pairs_push (λ (a b : Change). a.cycle < b.cycle) old _ so_far.rising old-earlier);
-    earlier = λ k d m o. kept-noted (λ (xs : List Change). All (λ c. c.cycle < (get_or events k d).cycle) xs) e.kind e.cycle e.line old
+        (λ held. all_pairs_push (λ (a b : Change Held). a.cycle < b.cycle) old _ so_far.rising old-earlier);
+    earlier = λ k d m o. kept-noted (λ (xs : List (Change Held)). All (λ c. c.cycle < (get_or events k d).cycle) xs) e.kind e.cycle e.line old
         (so_far.earlier k d (omega arith) o)
-        (λ held. All-push (λ (c : Change). c.cycle < (get_or events k d).cycle) old _ (so_far.earlier k d (omega arith) o) (later k d m o));
+        (λ held. All-push (λ (c : Change Held). c.cycle < (get_or events k d).cycle) old _ (so_far.earlier k d (omega arith) o) (later k d m o));
     held = λ t. says-noted e.kind e.cycle e.line old t old-earlier
         ∙ rw (so_far.held t) (sym (before-more shape l t events n e below at ∙ rw is refl));
   }
@@ -171,7 +172,7 @@ module _ (shape : Shape) (events : List CacheEvent) (n : ℕ) (e : CacheEvent) (
   }
 
 -- one event more
-pub noted-more : (shape : Shape) (events : List CacheEvent) (n slot : ℕ) (e : CacheEvent) (olds news : List (List Change)) → IsEventLog shape events
+pub noted-more : (shape : Shape) (events : List CacheEvent) (n slot : ℕ) (e : CacheEvent) (olds news : List (List (Change Held))) → IsEventLog shape events
     → n < length events → e ≡ get_or events n e → slot ≡ slot_of shape e.set e.way → length news ≡ length olds
     → ((l : ℕ) → get_or news l [] ≡ noted_if (slot == l) e (get_or olds l [])) → IsNoted shape events n olds → IsNoted shape events (n + 1) news
 noted-more shape events n slot e olds news log below at is same lists so_far = record {
@@ -182,7 +183,7 @@ noted-more shape events n slot e olds news log below at is same lists so_far = r
 
 -- ---- the lists of all events
 
-module _ (shape : Shape) (events : List CacheEvent) (n : ℕ) (lists : List (List Change)) (is : IsShape shape) (all : length events ≤ n)
+module _ (shape : Shape) (events : List CacheEvent) (n : ℕ) (lists : List (List (Change Held))) (is : IsShape shape) (all : length events ≤ n)
     (noted : IsNoted shape events n lists) where
   abbrev table : Histories
   table = record { shape = shape; changes = lists }

@@ -1,37 +1,25 @@
 -- What line slots hold in a run, as lists of the cycles whose events change it, and what is asked of the lists.
-use Rattle.std.specs.Prelude.{◌≡◌, ℕ, ◌+◌, ◌<◌, min, nat_le, nat_lt, List, [], ◌∷◌, Option, Some, None, if◌then◌else◌}
-use Rattle.std.specs.Prelude.{slice_index_or, length, find, All, AllPairs}
+use Rattle.std.specs.Prelude.{◌≡◌, ℕ, ◌+◌, min, List, [], Option, Some, None, slice_index_or, length, All}
 use Rattle.bit_field.specs.Shapes.{IsShape, slots}
 use Rattle.bit_field.specs.declared.shapes.Shape.{Shape}
-use Rattle.slot_history.specs.declared.changes.Change.{Change}
+use Rattle.change_list.specs.Lists.{IsRising, first_from, value_before}
+use Rattle.change_list.specs.declared.changes.Change.{Change}
 use Rattle.slot_history.specs.declared.changes.Held.{Held}
 use Rattle.slot_history.specs.declared.changes.Held.TheVariants.{Vacant}
 
--- each change comes later than those before it
-abbrev pub IsRising : List Change → Type 0
-IsRising changes = AllPairs (λ a b. a.cycle < b.cycle) changes
+-- what a slot holds before cycle t: it is vacant at reset
+abbrev pub held_at : List (Change Held) → ℕ → Held
+held_at changes t = value_before Vacant changes t
 
--- What a slot that held `before` holds before cycle t: what the last change in a cycle below t left. The changes rise.
-unfoldable pub held_from : Held → List Change → ℕ → Held
-held_from before [] t = before
-held_from before (c ∷ later) t = if nat_lt c.cycle t then held_from c.held later t else before
-
--- a slot is vacant at reset
-abbrev pub held_at : List Change → ℕ → Held
-held_at changes t = held_from Vacant changes t
-
--- the first change from cycle t on, and the cycle from which it shows: the one after its event's, as far as 32 bits go
-unfoldable pub first_from : ℕ → List Change → Option Change
-first_from t changes = find (λ c. nat_le t c.cycle) changes
-
-abbrev pub shows_from : Option Change → ℕ
+-- the cycle from which a change shows: the one after its event's, as far as 32 bits go
+abbrev pub shows_from : Option (Change Held) → ℕ
 shows_from None = 4294967295
 shows_from (Some c) = min (c.cycle + 1) 4294967295
 
 -- the changes of each slot of a cache
 pub record Histories : Type 0 where
   pub shape : Shape
-  pub changes : List (List Change)
+  pub changes : List (List (Change Held))
 
 unfoldable pub held_in : Histories → ℕ → ℕ → Held
 held_in table l t = held_at (slice_index_or table.changes l []) t

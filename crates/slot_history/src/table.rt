@@ -6,9 +6,10 @@ ghost use Rattle.slot_history.specs.Histories as histories;
 ghost use Rattle.slot_history.specs.HeldBefore.{IsSlotTable};
 ghost use Rattle.slot_history.specs.Notes as notes;
 
-use crate::changes::{ChangeList, Held, shows_from};
+use crate::changes::{Held, note, shows_from};
 use avf_base::OutOfMemory;
 use bit_field::Shape;
+use change_list::{ChangeList, empty_lists};
 use event_log::{slot_count, slot_number};
 use std::alloc::Global;
 use std::marker::Model;
@@ -18,7 +19,7 @@ use wb_cache::CacheEvent;
 #[derive(Drop)]
 pub struct SlotTable {
     shape: Shape,
-    changes: Vec<ChangeList>,
+    changes: Vec<ChangeList<Held>>,
 }
 
 impl Model for SlotTable {
@@ -39,7 +40,7 @@ impl SlotTable {
         requires { slot < slots self.now.shape }
         ensures { result ≡ histories.held_in self.now slot cycle }
     {
-        self.changes[slot as usize].held(cycle)
+        self.changes[slot as usize].value_before(Held::Vacant, cycle)
     }
 
     /// A cycle above `cycle`, which is below `u32::MAX`, up to before which the slot holds what it holds before `cycle`: the first from
@@ -56,23 +57,16 @@ impl SlotTable {
     }
 }
 
-/// So many lists without a change.
-fn no_changes(alloc: Global, count: u32) -> Result<Vec<ChangeList>, OutOfMemory>
-    ensures { IfOk result (λ v. v.items ≡ replicate count []) }
-{
-    let mut changes = Vec::new(alloc);
-    for _slot in 0..count {
-        changes.push(ChangeList::new(alloc))?;
-    }
-    Ok(changes)
-}
-
 /// Notes an event in the list of its slot.
-fn note(changes: &mut [ChangeList], slot: usize, event: &CacheEvent) -> Result<(), OutOfMemory>
+fn note_at(
+    changes: &mut [ChangeList<Held>],
+    slot: usize,
+    event: &CacheEvent,
+) -> Result<(), OutOfMemory>
     requires { slot < length changes.old }
     ensures { OnOk result ((l : ℕ) → slice_index_or changes.new l [] ≡ notes.noted_if (slot == l) event.now (slice_index_or changes.old l [])) }
 {
-    changes[slot].note(event)
+    note(&mut changes[slot], event)
 }
 
 /// What each line slot of a cache of this shape holds in a run with these events, by one walk over them. The table keeps at most
@@ -86,10 +80,10 @@ pub fn slot_table(
     requires events { IsEventLog shape.now events.now }
     ensures { IfOk result (λ table. IsSlotTable events.now shape.now table) }
 {
-    let mut changes = no_changes(alloc, slot_count(shape))?;
+    let mut changes = empty_lists(alloc, slot_count(shape))?;
     for event in events {
         let slot = slot_number(shape, event.set, event.way) as usize;
-        note(&mut changes, slot, event)?;
+        note_at(&mut changes, slot, event)?;
     }
     Ok(SlotTable {
         shape: *shape,

@@ -11,7 +11,7 @@ use Rattle.run_record.proofs.Verdicts.{one_verdict}
 use Rattle.ace_law.specs.Classes.{IsClass}
 use Rattle.ace_rules.specs.Notes.{Story, moment}
 use Rattle.strike_campaign.proofs.Indices.{one_place}
-use Rattle.strike_campaign.proofs.OneClass.{one_class}
+use Rattle.ace_rules.proofs.OneClass.{one_class}
 use Rattle.strike_campaign.specs.Campaigns.{AreOutcomes, IsCampaign, IsOutcome}
 use Rattle.strike_campaign.specs.Cells.{cells_of}
 use Rattle.strike_campaign.specs.Strikes.{IsStrike}

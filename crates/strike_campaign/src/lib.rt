@@ -18,3 +18,6 @@ pub use places::{all_bits, place_at};
 pub use strikes::{Strike, draw_strike};
 pub use striking::{MOST_STRIKES, campaign};
 pub use text::campaign_text;
+
+#[cfg(test)]
+mod tests;

@@ -14,14 +14,20 @@ pub struct Outcome {
     pub verdict: Verdict,
 }
 
-/// How many strikes there were of each kind: on bits that are un-ACE and on such that are ACE, by the verdicts.
+/// How many strikes there were of each kind, by the class of the bit in that cycle and by the verdict on the run.
 #[derive(Clone, Copy, Debug, PartialEq, Eq)]
 pub struct Cells {
+    /// On bits that are un-ACE: output and end are the recorded ones.
     pub unace_same: u32,
+    /// On bits that are un-ACE: output or end differs. This is 0 in every campaign.
     pub unace_differs: u32,
+    /// On bits that are un-ACE: no end comes within the bound. This is 0 in every campaign.
     pub unace_noend: u32,
+    /// On bits that no rule calls un-ACE: output and end are the recorded ones.
     pub ace_same: u32,
+    /// On bits that no rule calls un-ACE: output or end differs.
     pub ace_differs: u32,
+    /// On bits that no rule calls un-ACE: no end comes within the bound.
     pub ace_noend: u32,
 }
 

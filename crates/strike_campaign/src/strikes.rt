@@ -12,7 +12,9 @@ use run_record::Recorded;
 /// A flip of the bit at a place before a cycle of a run.
 #[derive(Clone, Copy, Debug, PartialEq, Eq)]
 pub struct Strike {
+    /// A bit of the machine.
     pub place: Place,
+    /// The cycle, from 0 on and below the run's number of cycles, before which the bit is flipped.
     pub cycle: u32,
 }
 

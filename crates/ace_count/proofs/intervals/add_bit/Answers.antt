@@ -2,7 +2,7 @@ use Rattle.std.proofs.Common.{◌≡◌, ap, arith}
 use Rattle.run_record.specs.Run.{RecordedRun}
 use Rattle.ace_count.specs.RunCounts.{HasClass}
 use Rattle.ace_count.proofs.BitClasses.{one_each}
-use Rattle.ace_count.proofs.Tallies.{added-most, added-on, added-start, number-most}
+use Rattle.ace_rules.proofs.Tallies.{added-most, added-on, added-start, number-most}
 use Rattle.ace_count.proofs.intervals.add_bit.Goals as goal
 
 pub loop-cycle-init : goal.loop-cycle-init

@@ -1,6 +1,6 @@
 use Rattle.std.proofs.Common.{◌-◌, ◌≤◌}
 use Rattle.ace_count.specs.RunCounts.{HasClass}
-use Rattle.ace_count.specs.Tallies.{IsAdded}
+use Rattle.ace_rules.specs.Tallies.{IsAdded}
 use Rattle.ace_count.proofs.intervals.add_bit.Given as goal
 
 abbrev pub invariant-loop-cycle : goal.invariant-loop-cycle

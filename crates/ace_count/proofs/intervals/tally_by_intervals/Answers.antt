@@ -1,6 +1,6 @@
 use Rattle.std.proofs.Common.{◌≤◌, arith}
 use Rattle.ace_count.specs.RunCounts.{HasClass}
-use Rattle.ace_count.proofs.Tallies.{tally-next_bit, tally-none, tally-room}
+use Rattle.ace_rules.proofs.Tallies.{tally-next_bit, tally-none, tally-room}
 use Rattle.ace_count.proofs.intervals.tally_by_intervals.Goals as goal
 
 pub loop-bit-init : goal.loop-bit-init

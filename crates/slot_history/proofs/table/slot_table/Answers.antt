@@ -9,9 +9,9 @@ loop-event-init c = rw (c.in_ok-changes.ensures, c.slot_count.ensures.value) (no
 
 pub loop-event-preserved : goal.loop-event-preserved
 loop-event-preserved c =
-    let news = c.note.new.changes in
+    let news = c.note_at.new.changes in
     let same : length news ≡ c.loop-event.changes.len = omega
-    (arith, c.note.auto.changes, ap length c.deref_mut.ensures.value, c.loop-event.changes.ok.0) in
+    (arith, c.note_at.auto.changes, ap length c.deref_mut.ensures.value, c.loop-event.changes.ok.0) in
     let noted : IsNoted c.args.shape.now c.args.events.now c.loop-event.event-index c.deref_mut.result.now = rw c.deref_mut.ensures.value
     c.loop-event.invariant in
     rw (take_at news (drop (length news) c.loop-event.changes.items) c.loop-event.changes.len same)
@@ -26,7 +26,7 @@ loop-event-preserved c =
       mask = 0;
       word = 0;
     })) c.deref_mut.result.now news c.requires.events (omega arith) (get_or_default c.args.events.now c.loop-event.event-index _ _ (omega arith))
-    c.slot_number-slot.ensures.value c.note.auto.changes c.in_ok-note.ensures noted)
+    c.slot_number-slot.ensures.value c.note_at.auto.changes c.in_ok-note_at.ensures noted)
 
 pub invariant_of-result : goal.invariant_of-result
 invariant_of-result c =

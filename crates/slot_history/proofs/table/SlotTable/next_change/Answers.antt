@@ -1,9 +1,10 @@
 use Rattle.std.proofs.Common.{◌≡◌, ◌<◌, [], length, get_or, sym, ◌∙◌, ap, subst, arith}
 use Rattle.std.proofs.lemmas.List.{get_or_default}
 use Rattle.bit_field.specs.Shapes.{slots}
-use Rattle.slot_history.specs.Histories.{Histories, first_from, held_at, held_in, shows_from}
+use Rattle.change_list.specs.Lists.{first_from}
+use Rattle.slot_history.specs.Histories.{Histories, held_at, held_in, shows_from}
 use Rattle.slot_history.specs.declared.changes.Held.TheVariants.{Vacant}
-use Rattle.slot_history.proofs.Lists.{same-until, shows-above}
+use Rattle.slot_history.proofs.Shown.{same-until, shows-above}
 use Rattle.slot_history.proofs.table.SlotTable.next_change.Goals as goal
 
 pub returns-clause-above : goal.returns-clause-above

@@ -1,0 +1,101 @@
+-- The counts of a bit up to the touches that were passed.
+use Rattle.std.proofs.Common.{◌≡◌, ℕ, ◌+◌, ◌-◌, ◌<◌, ◌≤◌, ◌⊎◌, inl, inr, Bool, true, false, List, length, get_or, refl, sym, ◌∙◌, ap, arith, subst}
+use Rattle.std.specs.Prelude.{not, if◌then◌else◌}
+use Rattle.std.proofs.lemmas.Bool.{cases_lt}
+use Rattle.std.proofs.lemmas.List.{get_or_default}
+use Rattle.bit_field.specs.declared.places.Place.{Place}
+use Rattle.ace_rules.specs.Notes.{Story}
+use Rattle.due_parity.specs.Due.{is_quiet}
+use Rattle.due_parity.specs.Fates.{fate, touch_at}
+use Rattle.due_parity.specs.Notes.{IsRising, fate_in, fate_of, noted_below}
+use Rattle.due_parity.specs.Stretches.{AreDetected, CountsCycles, all_of, no_pairs, plus}
+use Rattle.due_parity.specs.declared.counting.DueCounts.{DueCounts}
+use Rattle.due_parity.specs.declared.fate.Fate.{Fate}
+use Rattle.due_parity.specs.declared.fate.Fate.TheVariants.{Detected, Quiet}
+use Rattle.due_parity.specs.declared.watched.Noted.{Noted}
+use Rattle.due_parity.proofs.Decided.{below, fate-at, fate-past, rising, tabled}
+use Rattle.due_parity.proofs.Stretched.{all-counted, joined, nothing}
+
+-- The first i notes are passed: the cycles below `from` are counted, which are those up to and with the last of these notes.
+pub record IsPassed (story : Story) (p : Place) (notes : List Noted) (i from : ℕ) (counts : DueCounts) : Type 0 where
+  pub counted : CountsCycles story p 0 from counts
+  pub within : from ≤ story.r.cycles
+  pub early : (j : ℕ) (d : Noted) → j < i → j < length notes → (get_or notes j d).cycle < from
+  pub late : (j : ℕ) (d : Noted) → i ≤ j → j < length notes → from ≤ (get_or notes j d).cycle
+
+pub passed-none : (story : Story) (p : Place) (notes : List Noted) → IsPassed story p notes 0 0 no_pairs
+passed-none story p notes = record {
+  counted = nothing story p;
+  within = omega arith;
+  early = λ j d l m. absurd (omega (arith, l));
+  late = λ j d l m. omega arith;
+}
+
+quiet-by : (b : Bool) (c : ℕ) → is_quiet (if b then Detected c else Quiet) ≡ not b
+quiet-by true c = refl
+quiet-by false c = refl
+
+module _ (story : Story) (p : Place) (notes : List Noted) (are : notes ≡ noted_below (touch_at story.r p) story.r.cycles) where
+  rises : IsRising notes
+  rises = rw are (rising (touch_at story.r p) story.r.cycles)
+
+  short : (j : ℕ) (d : Noted) → j < length notes → (get_or notes j d).cycle < story.r.cycles
+  short = rw are (below (touch_at story.r p) story.r.cycles story.r.cycles (omega arith))
+
+  told : (t : ℕ) → t < story.r.cycles → fate story.r p t ≡ fate_in t notes
+  told t l = sym (tabled (touch_at story.r p) t story.r.cycles (omega (arith, l))) ∙ ap (fate_in t) (sym are)
+
+  module _ (i from : ℕ) (counts : DueCounts) (before : IsPassed story p notes i from counts) where
+    -- the next note
+    module _ (note : Noted) (l : i < length notes) (at : note ≡ get_or notes i note) where
+      here : (d : Noted) → get_or notes i d ≡ note
+      here d = get_or_default notes i d note l ∙ sym at
+
+      pub until-within : note.cycle + 1 ≤ story.r.cycles
+      until-within = let b = short i note l in let e : (get_or notes i note).cycle ≡ note.cycle = ap (λ (n : Noted). n.cycle) (sym at) in omega (arith, b, e)
+
+      pub until-after : from ≤ note.cycle + 1
+      until-after =
+          let b = before.late i note (omega arith) l in
+          let e : (get_or notes i note).cycle ≡ note.cycle = ap (λ (n : Noted). n.cycle) (sym at) in
+          omega (arith, b, e)
+
+      pub stretch-fates : AreDetected story p from (note.cycle + 1) note.reads
+      stretch-fates t k o =
+          let inside : note.cycle + 1 ≤ story.r.cycles = until-within in
+          let e : (get_or notes i note).cycle ≡ note.cycle = ap (λ (n : Noted). n.cycle) (sym at) in
+          ap is_quiet (told t (omega (arith, o, inside))
+          ∙ fate-at t notes i note l
+          (λ j m. let b = before.early j note m (omega (arith, m, l)) in omega (arith, b, k)) (omega (arith, o, e))
+          ∙ ap (λ (n : Noted). fate_of n) (sym at))
+          ∙ quiet-by note.reads note.cycle
+
+      pub passed-more : (one : DueCounts) → CountsCycles story p from (note.cycle + 1) one
+          → IsPassed story p notes (i + 1) (note.cycle + 1) (plus counts one)
+      passed-more one counted = record {
+        counted = joined story p 0 from (note.cycle + 1) counts one (omega arith) until-after before.counted counted;
+        within = until-within;
+        early = λ j d m o. elim (cases_lt j i) [
+          | inl b ↦ (let c = before.early j d b o in let after : from ≤ note.cycle + 1 = until-after in omega (arith, c, after))
+          | inr b ↦ (let same : j ≡ i = omega (arith, m, b) in
+              let e : (get_or notes j d).cycle ≡ note.cycle = ap (λ k. (get_or notes k d).cycle) same ∙ ap (λ (n : Noted). n.cycle) (here d) in
+              omega (arith, e))
+        ];
+        late = λ j d m o.
+            let c = rises i j d (omega (arith, m)) o in
+            let e : (get_or notes i d).cycle ≡ note.cycle = ap (λ (n : Noted). n.cycle) (here d) in
+            omega (arith, c, e);
+      }
+
+    -- after the last note
+    pub last-fates : length notes ≤ i → AreDetected story p from story.r.cycles false
+    last-fates all t k o =
+        ap is_quiet (told t o
+        ∙ fate-past t notes (record { cycle = 0; reads = false })
+        (λ j m. let b = before.early j (record { cycle = 0; reads = false }) (omega (arith, m, all)) m in omega (arith, b, k)))
+
+    pub counted-all : (one : DueCounts) → CountsCycles story p from story.r.cycles one → CountsCycles story p 0 story.r.cycles (plus counts one)
+    counted-all one counted = joined story p 0 from story.r.cycles counts one (omega arith) before.within before.counted counted
+
+    pub so-far : all_of counts ≡ from
+    so-far = let all = all-counted story p 0 from counts before.counted in omega (arith, all)

@@ -1,0 +1,1 @@
+"""Independent models of what `avf` does with files and words, for scripts/search."""
