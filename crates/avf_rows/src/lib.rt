@@ -8,6 +8,8 @@ mod flip_rows;
 #[cfg(test)]
 mod images;
 #[cfg(test)]
+mod plan_rows;
+#[cfg(test)]
 mod query_rows;
 #[cfg(test)]
 mod report_rows;

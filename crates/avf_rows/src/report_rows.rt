@@ -76,7 +76,7 @@ fn has_piece(text: &[u8], piece: &[u8]) -> bool {
 }
 
 // Asserts that the words give status 0 and a text with these pieces.
-fn has<R: Abort + AllocGlobal, L: Ledger, M: Ledger>(
+pub fn has<R: Abort + AllocGlobal, L: Ledger, M: Ledger>(
     rt: &R,
     steps: &mut Steps<L>,
     applies: &mut Steps<M>,

@@ -9,10 +9,13 @@ use Rattle.run_log.specs.Answers.{IsProgram}
 use Rattle.ace_class.specs.Counts.{Counted}
 use Rattle.ace_count.specs.RunCounts.{AreCounts}
 use Rattle.ace_rules.specs.Notes.{Story}
+use Rattle.harden_plan.specs.PlanTexts.{plan_text_of}
+use Rattle.harden_plan.specs.Plans.{IsPlan}
+use Rattle.harden_plan.specs.declared.plan.Plan.{Plan}
 use Rattle.avf_tool.specs.BitAnswers.{IsHarmless}
 use Rattle.avf_tool.specs.Due.{Text, only}
 use Rattle.avf_tool.specs.Programs.{program_of}
-use Rattle.avf_tool.specs.ReportAnswers.{HasCounts, counts_due}
+use Rattle.avf_tool.specs.ReportAnswers.{HasCounts, counts_due, plan_due}
 use Rattle.avf_tool.specs.Stages.{IsText}
 use Rattle.avf_tool.proofs.Chains.{text_due}
 use Rattle.avf_tool.proofs.Traces.{program_is}
@@ -32,3 +35,10 @@ pub counts_told : (run : RecordedRun) (text : Counted → List ℕ) (counted : C
     → IsText (only (Text (text counted))) told → IsText (counts_due run text) told
 counts_told run text counted told has h =
     text_due (only (Text (text counted))) (counts_due run text) (λ due e. subst (counts_due run text) e (counted, has, refl)) told h
+
+-- a plan by them is due
+pub plan_told : (run : RecordedRun) (bits : ℕ) (counted : Counted) (plan : Plan) (told : Result (Vec ℕ Global) Refusal) → HasCounts run counted
+    → IsPlan counted bits plan → IsText (only (Text (plan_text_of counted plan))) told → IsText (plan_due run bits) told
+plan_told run bits counted plan told has is h =
+    text_due (only (Text (plan_text_of counted plan))) (plan_due run bits)
+    (λ due e. subst (plan_due run bits) e (counted, plan, has, is, refl)) told h

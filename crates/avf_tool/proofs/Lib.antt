@@ -1,6 +1,8 @@
 mod ByStatus
+mod CampaignTold
 mod Chains
 mod Deadness
+mod DueTold
 mod Flips
 mod Generated
 mod HarmlessBits

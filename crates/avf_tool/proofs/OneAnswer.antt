@@ -1,6 +1,7 @@
 -- One answer is due to a command.
-use Rattle.std.proofs.Common.{◌≡◌, ℕ, List, Option, None, Some, sym, ap, ◌∙◌}
+use Rattle.std.proofs.Common.{◌≡◌, ℕ, List, Option, None, Some, refl, sym, ap, subst, ◌∙◌}
 use Rattle.bit_field.specs.declared.places.Place.{Place}
+use Rattle.bit_field.specs.declared.places.Structure.{Structure}
 use Rattle.elf_load.specs.Meaning.{image_of}
 use Rattle.run_record.specs.Run.{RecordedRun}
 use Rattle.run_record.specs.Within.{record_within}
@@ -13,12 +14,23 @@ use Rattle.avf_tool.specs.Answers.{answer, image_answer, on_run, ram_size, reaso
 use Rattle.avf_tool.specs.BitAnswers.{class_due, place_in, unless_nowhere, verdict_due}
 use Rattle.avf_tool.specs.Due.{Answer, Text, only}
 use Rattle.avf_tool.specs.Answers.{unless_endless, unless_refused}
-use Rattle.avf_tool.specs.ReportAnswers.{counts_due, story_of}
+use Rattle.avf_tool.specs.ReportAnswers.{counts_due, plan_due, story_of}
 use Rattle.avf_tool.specs.Texts.{class_text, verdict_text}
+use Rattle.harden_plan.proofs.BestSets.{one_plan}
+use Rattle.harden_plan.specs.PlanTexts.{plan_text_of}
+use Rattle.harden_plan.specs.Plans.{IsPlan}
+use Rattle.harden_plan.specs.declared.plan.Plan as plans
+use Rattle.strike_campaign.proofs.OneCampaign.{one_campaign}
+use Rattle.strike_campaign.specs.CampaignTexts.{campaign_text_of}
+use Rattle.avf_tool.specs.CampaignAnswers.{campaign_due}
+use Rattle.avf_tool.specs.declared.command.StrikesOfSeed.{StrikesOfSeed}
+use Rattle.due_parity.specs.DueTexts.{due_text_of}
+use Rattle.avf_tool.specs.DueAnswers.{rows_due, structures_in}
+use Rattle.avf_tool.proofs.DueTold.{one_rows}
 use Rattle.avf_tool.proofs.Flips.{same_verdict}
 use Rattle.avf_tool.specs.Words.{ImageJob, Job, OnImage, Bench, Assemble, bench_run}
 use Rattle.avf_tool.specs.declared.command.Task.{Task}
-use Rattle.avf_tool.specs.declared.command.Task.TheVariants.{Run, Dead, Report, Csv, Query, Flip}
+use Rattle.avf_tool.specs.declared.command.Task.TheVariants.{Run, Dead, Report, Csv, Plan, Campaign, Due, Query, Flip}
 
 -- at most one answer is due
 HasOne : (Answer → Type 0) → Type 0
@@ -46,11 +58,35 @@ one_counts : (run : RecordedRun) (text : Counted → List ℕ) → HasOne (count
 unfolding HasOne
 one_counts run text a b h k = sym h.2 ∙ ap (λ c. Text (text c)) (counts_unique (story_of run) h.0 k.0 h.1.are k.1.are) ∙ k.2
 
+same_plan : (bits : ℕ) (c d : Counted) (p q : plans.Plan) → c ≡ d → IsPlan c bits p → IsPlan d bits q → Text (plan_text_of c p) ≡ Text (plan_text_of d q)
+same_plan bits c d p q e h k =
+    let same : p ≡ q = one_plan c bits p q h (subst (λ x. IsPlan x bits q) (sym e) k) in rw (e, same) refl
+
+one_plan_due : (run : RecordedRun) (bits : ℕ) → HasOne (plan_due run bits)
+unfolding HasOne
+one_plan_due run bits a b h k =
+    sym h.4 ∙ same_plan bits h.0 k.0 h.1 k.1 (counts_unique (story_of run) h.0 k.0 h.2.are k.2.are) h.3 k.3 ∙ k.4
+
+one_campaign_due : (run : RecordedRun) (asked : StrikesOfSeed) → HasOne (campaign_due run asked)
+unfolding HasOne
+one_campaign_due run asked a b h k =
+    sym h.2 ∙ ap (λ c. Text (campaign_text_of asked.strikes c)) (one_campaign (story_of run) asked.seed asked.strikes h.0 k.0 h.1 k.1) ∙ k.2
+
+one_rows_due : (run : RecordedRun) (structures : List Structure) → HasOne (rows_due run structures)
+unfolding HasOne
+one_rows_due run structures a b h k =
+    sym h.2
+    ∙ ap (λ rows. Text (due_text_of run.cycles rows))
+    (one_rows (story_of run) h.0 k.0 (h.1.named ∙ sym k.1.named) h.1.each k.1.each) ∙ k.2
+
 one_task : (task : Task) (run : RecordedRun) → HasOne (task_answer task run)
 one_task Run run = one_only _
 one_task Dead run = one_only _
 one_task Report run = one_counts run (report_text_of run)
 one_task Csv run = one_counts run report_csv_of
+one_task (Plan bits) run = one_plan_due run bits
+one_task (Campaign asked) run = one_campaign_due run asked
+one_task (Due protected) run = one_rows_due run (structures_in protected)
 one_task (Query asked) run = one_place (place_in run asked) (class_due run asked.cycle) (one_class_due run asked.cycle)
 one_task (Flip asked) run = one_place (place_in run asked) (verdict_due run asked.cycle) (one_verdict_due run asked.cycle)
 

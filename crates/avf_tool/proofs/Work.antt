@@ -29,11 +29,11 @@ module _ (job : ImageJob) (contents : List ℕ) (image : LoadedImage) (loaded : 
 
   -- it was, and was told of
   pub told : (steps made after applies applied : ℕ) (run : RecordedRun) → record_within image job.shape job.budget ≡ Some run → made ≡ steps + run.cycles
-      → (tells_of_one_run job.task ≡ true → after ≤ made + run.cycles) → applied ≤ applies + 34 * run.instructions
+      → (tells_of_one_run job.task ≡ true → after ≤ made + 2 * run.cycles) → applied ≤ applies + 34 * run.instructions
       → IsFew job contents (after - steps) (applied - applies)
   told steps made after applies applied run is first then few other one within =
       let same : run ≡ other = some_is (record_within image job.shape job.budget) run other is (within_image other within) in
-      let most : after ≤ made + run.cycles = then one in
+      let most : after ≤ made + 2 * run.cycles = then one in
       subst (λ (r : RecordedRun). IsFewFor r (after - steps) (applied - applies)) same
       (record { cycles = omega (arith, most, first); instructions = omega (arith, few) })
 

@@ -10,13 +10,15 @@ use Rattle.run_record.specs.Within.{record_within}
 use Rattle.rv_asm.specs.Sources.{assembled, fault_in, number_of}
 use Rattle.rv_asm.specs.declared.fault.Fault.{Fault}
 use Rattle.avf_tool.specs.BitAnswers.{flip_due, query_due}
+use Rattle.avf_tool.specs.CampaignAnswers.{campaign_due}
+use Rattle.avf_tool.specs.DueAnswers.{parity_due}
 use Rattle.avf_tool.specs.Due.{Answer, Text, Refused, only}
 use Rattle.avf_tool.specs.Programs.{instructions_of}
-use Rattle.avf_tool.specs.ReportAnswers.{csv_due, report_due}
+use Rattle.avf_tool.specs.ReportAnswers.{csv_due, plan_due, report_due}
 use Rattle.avf_tool.specs.Texts.{deadness_text, run_text}
 use Rattle.avf_tool.specs.Words.{ImageJob, Job, OnImage, Bench, Assemble, bench_run}
 use Rattle.avf_tool.specs.declared.command.Task.{Task}
-use Rattle.avf_tool.specs.declared.command.Task.TheVariants.{Run, Dead, Report, Csv, Query, Flip}
+use Rattle.avf_tool.specs.declared.command.Task.TheVariants.{Run, Dead, Report, Csv, Plan, Campaign, Due, Query, Flip}
 use Rattle.avf_tool.specs.declared.stages.TheConstants.{IMAGE_LIMIT, TOO_LONG}
 
 -- the size of a machine's RAM, in bytes
@@ -49,6 +51,9 @@ task_answer Run run = only (Text (run_text run.output run.end run.instructions))
 task_answer Dead run = only (Text (deadness_text (instructions_of run)))
 task_answer Report run = report_due run
 task_answer Csv run = csv_due run
+task_answer (Plan bits) run = plan_due run bits
+task_answer (Campaign asked) run = campaign_due run asked
+task_answer (Due protected) run = parity_due run protected
 task_answer (Query asked) run = query_due run asked
 task_answer (Flip asked) run = flip_due run asked
 

@@ -1,6 +1,8 @@
 pub mod Answers
 pub mod BitAnswers
+pub mod CampaignAnswers
 pub mod Due
+pub mod DueAnswers
 pub mod Ends
 pub mod Jobs
 pub mod Law

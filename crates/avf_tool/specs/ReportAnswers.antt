@@ -6,6 +6,9 @@ use Rattle.ace_count.specs.RunCounts.{AreCounts}
 use Rattle.ace_rules.specs.Notes.{Story}
 use Rattle.avf_report.specs.Tables.{report_csv_of}
 use Rattle.avf_report.specs.Texts.{report_text_of}
+use Rattle.harden_plan.specs.PlanTexts.{plan_text_of}
+use Rattle.harden_plan.specs.Plans.{IsPlan}
+use Rattle.harden_plan.specs.declared.plan.Plan.{Plan}
 use Rattle.avf_tool.specs.BitAnswers.{IsHarmless}
 use Rattle.avf_tool.specs.Due.{Answer, Text}
 use Rattle.avf_tool.specs.Programs.{program_of}
@@ -28,3 +31,8 @@ report_due run = counts_due run (report_text_of run)
 
 abbrev pub csv_due : RecordedRun → Answer → Type 0
 csv_due run = counts_due run report_csv_of
+
+-- the best set of structures to protect that fits into so many bits
+abbrev pub plan_due : RecordedRun → ℕ → Answer → Type 0
+plan_due run bits due =
+    (counted : Counted) × (plan : Plan) × HasCounts run counted × IsPlan counted bits plan × (Text (plan_text_of counted plan) ≡ due)

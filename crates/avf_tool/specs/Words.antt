@@ -12,10 +12,13 @@ use Rattle.ace_class.specs.Counts.{structures}
 use Rattle.img_gen.specs.Program.{generated}
 use Rattle.img_gen.specs.declared.generator.TheConstants.{MAX_SIZE}
 use Rattle.run_record.specs.declared.recorded.TheConstants.{LONGEST_RUN}
+use Rattle.strike_campaign.specs.declared.striking.TheConstants.{MOST_STRIKES}
 use Rattle.avf_tool.specs.Numbers.{number}
 use Rattle.avf_tool.specs.declared.command.BitInCycle.{BitInCycle}
+use Rattle.avf_tool.specs.declared.command.Protected.{Protected}
+use Rattle.avf_tool.specs.declared.command.Protected.TheVariants.{Registers, Data, Both}
 use Rattle.avf_tool.specs.declared.command.Task.{Task}
-use Rattle.avf_tool.specs.declared.command.Task.TheVariants.{Run, Dead, Report, Csv, Query, Flip}
+use Rattle.avf_tool.specs.declared.command.Task.TheVariants.{Run, Dead, Report, Csv, Plan, Campaign, Due, Query, Flip}
 
 -- what is told of the run of an image: its file's name, the machine, and how many cycles the run may take
 pub record ImageJob : Type 0 where
@@ -64,6 +67,29 @@ bit_words (name ∷ bit ∷ cycle ∷ []) =
     else None
 bit_words _ = None
 
+-- BITS: below 2^32
+abbrev pub plan_words : List (List ℕ) → Option Task
+plan_words (bits ∷ []) = option_map Plan (word_number bits)
+plan_words _ = None
+
+-- SEED STRIKES: below 2^64, and 1 to 10,000
+abbrev pub campaign_words : List (List ℕ) → Option Task
+campaign_words (seed ∷ strikes ∷ []) =
+    option_and_then (λ s. option_map (λ n. Campaign (record { seed = s; strikes = n })) (number 1 MOST_STRIKES strikes)) (number 0 (2 ^ 64 - 1) seed)
+campaign_words _ = None
+
+-- PROTECTED: `rf`, `cdata` or `both`
+abbrev pub protected_named : List ℕ → Option Protected
+protected_named name =
+    if bytes_eq name (codes "rf") then Some Registers
+    else if bytes_eq name (codes "cdata") then Some Data
+    else if bytes_eq name (codes "both") then Some Both
+    else None
+
+abbrev pub due_words : List (List ℕ) → Option Task
+due_words (name ∷ []) = option_map Due (protected_named name)
+due_words _ = None
+
 -- the commands `NAME IMAGE BUDGET ..`, one line each
 abbrev pub tasks : List TaskWords
 tasks =
@@ -71,6 +97,9 @@ tasks =
     ∷ record { name = codes "dead"; reads = alone Dead }
     ∷ record { name = codes "report"; reads = alone Report }
     ∷ record { name = codes "csv"; reads = alone Csv }
+    ∷ record { name = codes "plan"; reads = plan_words }
+    ∷ record { name = codes "campaign"; reads = campaign_words }
+    ∷ record { name = codes "due"; reads = due_words }
     ∷ record { name = codes "query"; reads = λ words. option_map Query (bit_words words) }
     ∷ record { name = codes "flip"; reads = λ words. option_map Flip (bit_words words) }
     ∷ []
@@ -152,11 +181,17 @@ told_to (OnImage job) holds = holds job.image
 told_to (Bench job) holds = Some (generated job.number job.size)
 told_to (Assemble source) holds = holds source
 
--- What a machine can run: the cycles and the shape are in their ranges.
+-- a task whose numbers are in their ranges
+abbrev pub IsTask : Task → Type 0
+IsTask (Campaign asked) = asked.strikes ≤ MOST_STRIKES
+IsTask _ = ⊤
+
+-- What a machine can run: the cycles, the shape and the task are in their ranges.
 pub record IsRunnable (job : ImageJob) : Type 0 where
   pub least : 1 ≤ job.budget
   pub most : job.budget ≤ LONGEST_RUN
   pub shape : IsShape job.shape
+  pub task : IsTask job.task
 
 -- What can be generated: the size and the shape are in their ranges.
 pub record IsMakeable (job : BenchJob) : Type 0 where

@@ -6,7 +6,7 @@ use Rattle.run_record.specs.Within.{record_within}
 use Rattle.avf_tool.specs.Answers.{ram_size}
 use Rattle.avf_tool.specs.Words.{ImageJob, Job, OnImage, Bench, Assemble, bench_run, told_to}
 use Rattle.avf_tool.specs.declared.command.Task.{Task}
-use Rattle.avf_tool.specs.declared.command.Task.TheVariants.{Flip}
+use Rattle.avf_tool.specs.declared.command.Task.TheVariants.{Campaign, Flip}
 
 -- by the length of a run: three times its cycles at most, and 64 times its instructions
 pub record IsFewFor (run : RecordedRun) (steps applies : ℕ) : Type 0 where
@@ -16,6 +16,7 @@ pub record IsFewFor (run : RecordedRun) (steps applies : ℕ) : Type 0 where
 -- a task that tells of the run alone, and of no flipped one
 abbrev pub tells_of_one_run : Task → Bool
 tells_of_one_run (Flip asked) = false
+tells_of_one_run (Campaign asked) = false
 tells_of_one_run _ = true
 
 -- Where such a task is asked for, and the run of the image that the contents mean ends within the budget, its length bounds the work.

@@ -2,7 +2,7 @@
 ghost use Rattle.std.specs.Prelude.{◌≡◌, MatchOption, IfSome, Some, None, option_map};
 ghost use Rattle.bit_field.specs.Shapes.{IsShape};
 ghost use Rattle.avf_tool.specs.Words as asked;
-ghost use Rattle.avf_tool.specs.Words.{IsDoable, asm_job, bit_words, command_of, command_on, structure_of, task_in, task_job, tasks, texts, with_job, word_number};
+ghost use Rattle.avf_tool.specs.Words.{IsDoable, IsTask, asm_job, bit_words, campaign_words, due_words, protected_named, command_of, command_on, plan_words, structure_of, task_in, task_job, tasks, texts, with_job, word_number};
 ghost use Rattle.avf_tool.specs.Jobs.{job_of};
 
 use crate::numbers::number;
@@ -10,6 +10,7 @@ use crate::shape::shape;
 use bit_field::{Shape, Structure, plain_shape, structure_named};
 use img_gen::MAX_SIZE;
 use run_log::LONGEST_RUN;
+use strike_campaign::MOST_STRIKES;
 
 /// A bit of a structure, counted from 0, and a cycle of the run, counted from 0. There is no structure where none has the name that
 /// was asked for.
@@ -18,6 +19,21 @@ pub struct BitInCycle {
     pub structure: Option<Structure>,
     pub bit: u32,
     pub cycle: u32,
+}
+
+/// How many strikes of which seed; at most `MOST_STRIKES`.
+#[derive(Clone, Copy, Debug, PartialEq, Eq)]
+pub struct StrikesOfSeed {
+    pub seed: u64,
+    pub strikes: u32,
+}
+
+/// Which structures have parity.
+#[derive(Clone, Copy, Debug, PartialEq, Eq)]
+pub enum Protected {
+    Registers,
+    Data,
+    Both,
 }
 
 /// What a command tells of the run of an image.
@@ -31,6 +47,12 @@ pub enum Task {
     Report,
     /// The same as a table of comma-separated values.
     Csv,
+    /// Which structures to protect, where only so many bits can be protected.
+    Plan(u32),
+    /// What becomes of strikes at random, by class and verdict.
+    Campaign(StrikesOfSeed),
+    /// How many flips parity detects.
+    Due(Protected),
     /// The class of a bit in a cycle.
     Query(BitInCycle),
     /// What becomes of the run with a bit flipped before a cycle.
@@ -127,15 +149,68 @@ fn flip_words(words: &[String]) -> Option<Task>
     Some(Task::Flip(bit_words(words)?))
 }
 
+// BITS: below 2^32.
+fn plan_words(words: &[String]) -> Option<Task>
+    ensures { result ≡ plan_words (texts words.now) }
+{
+    match words {
+        [bits] => Some(Task::Plan(word_number(bits.as_str())?)),
+        _ => None,
+    }
+}
+
+// SEED STRIKES.
+fn campaign_words(words: &[String]) -> Option<Task>
+    ensures is { result ≡ campaign_words (texts words.now) }
+    ensures does { IfSome result IsTask }
+{
+    match words {
+        [seed, strikes] => {
+            let seed = number(seed.as_str(), 0, u64::MAX)?;
+            let strikes = number(strikes.as_str(), 1, u64::from(MOST_STRIKES))?;
+            Some(Task::Campaign(StrikesOfSeed {
+                seed,
+                strikes: strikes as u32,
+            }))
+        }
+        _ => None,
+    }
+}
+
+fn protected_named(name: &str) -> Option<Protected>
+    ensures { result ≡ protected_named name.now }
+{
+    match name {
+        "rf" => Some(Protected::Registers),
+        "cdata" => Some(Protected::Data),
+        "both" => Some(Protected::Both),
+        _ => None,
+    }
+}
+
+// PROTECTED.
+fn due_words(words: &[String]) -> Option<Task>
+    ensures { result ≡ due_words (texts words.now) }
+{
+    match words {
+        [name] => Some(Task::Due(protected_named(name.as_str())?)),
+        _ => None,
+    }
+}
+
 // The task of this name, with the words behind IMAGE and BUDGET. One line each.
 fn task_named(name: &str, words: &[String]) -> Option<Task>
-    ensures { result ≡ task_in tasks name.now (texts words.now) }
+    ensures is { result ≡ task_in tasks name.now (texts words.now) }
+    ensures does { IfSome result IsTask }
 {
     match name {
         "run" => alone(words, Task::Run),
         "dead" => alone(words, Task::Dead),
         "report" => alone(words, Task::Report),
         "csv" => alone(words, Task::Csv),
+        "plan" => plan_words(words),
+        "campaign" => campaign_words(words),
+        "due" => due_words(words),
         "query" => query_words(words),
         "flip" => flip_words(words),
         _ => None,
@@ -143,7 +218,8 @@ fn task_named(name: &str, words: &[String]) -> Option<Task>
 }
 
 fn image_command<'a>(shape: Shape, image: &'a str, budget: &str, task: Task) -> Option<Command<'a>>
-    requires { IsShape shape }
+    requires shape { IsShape shape }
+    requires task { IsTask task }
     ensures is { MatchOption result (asked.image_job shape image.now budget.now task ≡ None) (λ c. asked.image_job shape image.now budget.now task ≡ Some (job_of c)) }
     ensures does { IfSome result (λ c. IsDoable (job_of c)) }
 {

@@ -8,6 +8,8 @@ mod shape;
 
 // What a command answers.
 mod bits;
+mod campaigns;
+mod parity;
 mod perform;
 mod reports;
 mod stages;

@@ -6,11 +6,13 @@ ghost use Rattle.img_gen.specs.Program.{generated};
 ghost use Rattle.run_log.specs.Answers.{IsProgram};
 ghost use Rattle.avf_tool.specs.Stages.{Answers, IsDeadText, IsText};
 ghost use Rattle.avf_tool.specs.Work.{IsFew, WorkOf, tells_of_one_run};
-ghost use Rattle.avf_tool.specs.Words.{Assemble, Bench, IsDoable, IsMakeable, IsRunnable, OnImage, bench_run, told_to};
+ghost use Rattle.avf_tool.specs.Words.{Assemble, Bench, IsDoable, IsMakeable, IsTask, IsRunnable, OnImage, bench_run, told_to};
 
 use crate::bits::{flip_answer, query_answer};
+use crate::campaigns::campaign_answer;
 use crate::command::{BenchCommand, Command, ImageCommand, Task};
-use crate::reports::{csv_answer, report_answer};
+use crate::parity::parity_answer;
+use crate::reports::{csv_answer, plan_answer, report_answer};
 use crate::stages::{
     IMAGE_LIMIT, assemble_source, generate_image, load_image, read_image, read_source, run_image,
     trace_run,
@@ -64,9 +66,10 @@ fn task_answer<L: Ledger, M: Ledger>(
     steps: &mut Steps<L>,
     applies: &mut Steps<M>,
 ) -> Result<Vec<u8>, Refusal>
-    requires { IsProgram run }
+    requires program { IsProgram run }
+    requires task { IsTask task }
     ensures text { IsText (task_answer task run.entry) result }
-    ensures steps { tells_of_one_run task ≡ true → steps.new ≤ steps.old + run.entry.cycles }
+    ensures steps { tells_of_one_run task ≡ true → steps.new ≤ steps.old + 2 * run.entry.cycles }
     ensures applies { applies.new ≤ applies.old + 34 * run.entry.instructions }
 {
     match task {
@@ -74,6 +77,9 @@ fn task_answer<L: Ledger, M: Ledger>(
         Task::Dead => dead_answer(alloc, &run, applies),
         Task::Report => report_answer(alloc, run, steps, applies),
         Task::Csv => csv_answer(alloc, run, steps, applies),
+        Task::Plan(bits) => plan_answer(alloc, bits, run, steps, applies),
+        Task::Campaign(asked) => campaign_answer(alloc, &asked, run, steps, applies),
+        Task::Due(protected) => parity_answer(alloc, protected, run, steps, applies),
         Task::Query(asked) => query_answer(alloc, &asked, run, steps, applies),
         Task::Flip(asked) => flip_answer(alloc, &asked, &run, steps),
     }

@@ -4,8 +4,9 @@ ghost use Rattle.rv_isa.specs.Runs.{IsTrace};
 ghost use Rattle.run_log.specs.Answers.{IsProgram};
 ghost use Rattle.avf_report.specs.Tables.{report_csv_of};
 ghost use Rattle.avf_report.specs.Texts.{report_text_of};
+ghost use Rattle.harden_plan.specs.PlanTexts.{plan_text_of};
 ghost use Rattle.avf_tool.specs.Due.{Text, only};
-ghost use Rattle.avf_tool.specs.ReportAnswers.{HasCounts, csv_due, report_due};
+ghost use Rattle.avf_tool.specs.ReportAnswers.{HasCounts, csv_due, plan_due, report_due};
 ghost use Rattle.avf_tool.specs.Stages.{IsText};
 
 use crate::bits::is_harmless;
@@ -14,6 +15,7 @@ use ace_count::count;
 use ace_rules::Analysis;
 use avf_base::{Refusal, Steps};
 use avf_report::{report_csv, report_text};
+use harden_plan::{Plan, best, plan_text};
 use run_log::Recorded;
 use std::alloc::Global;
 use std::sync::ledger::Ledger;
@@ -95,4 +97,40 @@ pub fn csv_answer<L: Ledger, M: Ledger>(
 {
     let analysis = Analysis::new(alloc, run, steps, applies)?;
     csv_of(alloc, &analysis)
+}
+
+// A plan in words.
+fn plan_bytes(alloc: Global, counts: &Counts, plan: &Plan) -> Result<Vec<u8>, Refusal>
+    ensures { IsText (only (Text (plan_text_of counts.now plan.now))) result }
+{
+    let text = plan_text(alloc, plan, counts)?;
+    Ok(text.into_bytes())
+}
+
+// The best plan by the counts of an analysed run.
+fn plan_of(alloc: Global, analysis: &Analysis<'_>, bits: u32) -> Result<Vec<u8>, Refusal>
+    requires program { IsProgram analysis.now.r }
+    requires traced { IsTrace analysis.now.r.image analysis.now.r.clocks analysis.now.run }
+    ensures { IsText (plan_due analysis.now.r bits) result }
+{
+    let counts = counts_of(analysis);
+    let plan = best(&counts, bits);
+    plan_bytes(alloc, &counts, &plan)
+}
+
+/// The best set of structures to protect that fits into so many bits, by the counts of a recorded run.
+pub fn plan_answer<L: Ledger, M: Ledger>(
+    alloc: Global,
+    bits: u32,
+    run: Recorded<'_>,
+    steps: &mut Steps<L>,
+    applies: &mut Steps<M>,
+) -> Result<Vec<u8>, Refusal>
+    requires { IsProgram run }
+    ensures text { IsText (plan_due run.entry bits) result }
+    ensures steps { steps.new ≤ steps.old + run.entry.cycles }
+    ensures applies { applies.new ≤ applies.old + 34 * run.entry.instructions }
+{
+    let analysis = Analysis::new(alloc, run, steps, applies)?;
+    plan_of(alloc, &analysis, bits)
 }
