@@ -1,7 +1,6 @@
 -- The classes of the bits of ID/EX by masks.
-use Rattle.std.proofs.Common.{◌≡◌, ◌≢◌, ℕ, ◌+◌, ◌-◌, ◌^◌, ◌<◌, ◌≤◌, ◌==◌, ◌&&◌, ◌||◌, not, Bool, true, false, cond, List, [], ◌∷◌, refl, sym, ap, ◌∙◌, subst, arith, inl, inr}
-use Rattle.std.specs.Prelude.{Option, Some, bit_and, bit_or, bit_xor, nat_le, nat_lt, if◌then◌else◌}
-use Rattle.std.specs.Int.{bit_at}
+use Rattle.std.proofs.Common.{◌≡◌, ℕ, ◌+◌, ◌-◌, ◌^◌, ◌<◌, ◌≤◌, ◌&&◌, ◌||◌, not, Bool, true, false, cond, [], ◌∷◌, refl, sym, ap, ◌∙◌, subst, arith, inl, inr}
+use Rattle.std.specs.Prelude.{Some, bit_and, bit_or, bit_xor, nat_le, nat_lt, if◌then◌else◌}
 use Rattle.std.proofs.lemmas.Option.{same_Some}
 use Rattle.std.proofs.lemmas.Bool.{cases_Bool}
 use Rattle.std.proofs.lemmas.Bool.Decides.{nat_tests}
@@ -11,18 +10,15 @@ use Rattle.bit_field.proofs.Located.{located-here, located-on}
 use Rattle.pipe_latch.specs.DecodedBits as idex
 use Rattle.pipe_latch.specs.declared.id_ex.IdExField.{IdExField}
 use Rattle.pipe_latch.specs.declared.id_ex.IdExField.TheVariants as of_decoded
-use Rattle.ace_class.specs.declared.class.Class.{Class}
-use Rattle.ace_class.specs.declared.class.Class.TheVariants.{Ace, UnAce}
 use Rattle.ace_class.specs.declared.class.Rule.TheVariants.{EmptyPlace, Masked, OnPath, Timing, WrongPath}
 use Rattle.ace_rules.specs.FirstRules.{class_by, no_rule}
 use Rattle.ace_rules.specs.PipelineTests.{becomes_next, decoded_tests, is_count, is_masked_decoded, is_place_of_decoded, is_unused_decoded, is_wrong_decoded}
 use Rattle.ace_rules.specs.RuleMasks.{first_of, is_next_bit, is_set}
 use Rattle.ace_rules.specs.declared.note.Note.{Note}
-use Rattle.ace_rules.specs.declared.tally.RuleMask.{RuleMask}
 use Rattle.ace_rules.specs.declared.tally_decoded.TheConstants.{DECODED_COUNT, DECODED_IMMEDIATE, DECODED_PLACE, DECODED_UNUSED, DECODED_VALID}
 use Rattle.ace_rules.proofs.FirstMasks.{is_rest}
 use Rattle.ace_rules.proofs.LatchMarks.{of}
-use Rattle.ace_rules.proofs.MarkedBits.{agree, agreed, and-false, in_field, marks, when-set}
+use Rattle.ace_rules.proofs.MarkedBits.{agree, and-false, in_field, marks, when-set}
 use Rattle.ace_rules.proofs.NextBits.{set-or}
 
 -- ---- which fields the masks mark

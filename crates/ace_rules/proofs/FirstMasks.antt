@@ -1,17 +1,15 @@
 -- The bits that each rule takes, by masks.
-use Rattle.std.proofs.Common.{◌≡◌, ℕ, zero, suc, ◌+◌, ◌-◌, ◌*◌, ◌^◌, ◌<◌, ◌==◌, ◌&&◌, true, false, Bool, List, [], ◌∷◌, cond, refl, sym, ap, ◌∙◌, arith, inl, inr}
+use Rattle.std.proofs.Common.{◌≡◌, ℕ, zero, suc, ◌+◌, ◌-◌, ◌*◌, ◌^◌, ◌<◌, ◌==◌, ◌&&◌, true, false, Bool, List, [], ◌∷◌, cond, refl, sym, ap, ◌∙◌, arith}
 use Rattle.std.proofs.Common.{length, set, ◌≤◌}
 use Rattle.std.specs.Prelude.{slice_index, bit_and, bit_xor, if◌then◌else◌}
-use Rattle.std.specs.Int.{bit_at}
 use Rattle.std.specs.Int.Count.{ones}
-use Rattle.std.proofs.lemmas.Bool.{cases_eq}
 use Rattle.std.proofs.lemmas.Bool.Decides.{nat_tests}
 use Rattle.std.proofs.lemmas.Nat.Bits.{bit_at-lt, bit_at_and, bit_at_ones, bit_at_xor}
 use Rattle.bit_field.specs.Layouts.{number_of}
 use Rattle.ace_class.specs.Classes.{class_number, number_of as rule_number}
 use Rattle.std.proofs.lemmas.Nat.{and_le_l, xor_lt}
 use Rattle.ace_class.specs.declared.class.Class.{Class}
-use Rattle.ace_class.specs.declared.class.Class.TheVariants.{Ace, UnAce}
+use Rattle.ace_class.specs.declared.class.Class.TheVariants.{UnAce}
 use Rattle.ace_class.specs.declared.class.Rule.{Rule}
 use Rattle.ace_rules.specs.RuleMasks.{first_of, is_set}
 use Rattle.ace_rules.specs.Sums.{count_below, sum_below}

@@ -1,15 +1,12 @@
 -- The classes of the bits of MEM/WB and EX/MEM by masks.
-use Rattle.std.proofs.Common.{◌≡◌, ℕ, ◌<◌, ◌==◌, ◌&&◌, ◌||◌, not, Bool, true, false, cond, List, [], ◌∷◌, refl, sym, ap, ◌∙◌}
-use Rattle.std.specs.Prelude.{Option, Some, if◌then◌else◌}
-use Rattle.std.specs.Int.{bit_at}
+use Rattle.std.proofs.Common.{◌≡◌, ℕ, ◌<◌, ◌==◌, not, Bool, true, [], ◌∷◌, refl}
+use Rattle.std.specs.Prelude.{Some, if◌then◌else◌}
 use Rattle.bit_field.specs.Layouts.{located}
 use Rattle.bit_field.specs.declared.shapes.TheConstants.{EX_MEM_BITS, MEM_WB_BITS}
 use Rattle.pipe_latch.specs.ExecutedBits as exmem
 use Rattle.pipe_latch.specs.ResultBits as memwb
 use Rattle.pipe_latch.specs.declared.ex_mem.ExMemField.{ExMemField}
 use Rattle.pipe_latch.specs.declared.mem_wb.MemWbField.{MemWbField}
-use Rattle.ace_class.specs.declared.class.Class.{Class}
-use Rattle.ace_class.specs.declared.class.Class.TheVariants.{Ace, UnAce}
 use Rattle.ace_class.specs.declared.class.Rule.{Rule}
 use Rattle.ace_class.specs.declared.class.Rule.TheVariants.{EmptyPlace, Masked, NoTrapCause}
 use Rattle.ace_rules.specs.FirstRules.{class_by, no_rule}

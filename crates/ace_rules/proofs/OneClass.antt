@@ -1,5 +1,5 @@
 -- A bit has one class in a cycle.
-use Rattle.std.proofs.Common.{◌≡◌, refl, inl, inr}
+use Rattle.std.proofs.Common.{◌≡◌, ℕ, refl, inl, inr}
 use Rattle.std.proofs.lemmas.Bool.{cases_order}
 use Rattle.bit_field.specs.declared.places.Place.{Place}
 use Rattle.ace_class.specs.Classes.{number_of}

@@ -1,11 +1,10 @@
-use Rattle.std.proofs.Common.{ℕ, ◌≡◌, ◌+◌, ◌<◌, ◌≤◌, ◌^◌, ◌==◌, arith, refl, sym, ap, ◌∙◌}
+use Rattle.std.proofs.Common.{ℕ, ◌+◌, ◌==◌, arith, refl, ap, ◌∙◌}
 use Rattle.std.specs.Prelude.{slice_index}
 use Rattle.std.proofs.Math.ListN.{length-set}
 use Rattle.std.proofs.lemmas.List.{drop_all, drop_more}
 use Rattle.std.proofs.lemmas.Nat.{pow_pos}
 use Rattle.ace_class.specs.Classes.{class_number}
 use Rattle.ace_rules.specs.RuleMasks.{first_of}
-use Rattle.ace_rules.specs.Sums.{count_below}
 use Rattle.ace_rules.proofs.FirstMasks.{end-room, end-row, left-start, next-room, next-row, rest-fits, rule-most}
 use Rattle.ace_rules.proofs.Tallies.{count-le}
 use Rattle.ace_rules.proofs.tally.add_firsts.Goals as goal

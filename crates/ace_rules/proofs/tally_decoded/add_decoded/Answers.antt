@@ -1,4 +1,4 @@
-use Rattle.std.proofs.Common.{ℕ, ◌+◌, arith, ◌==◌}
+use Rattle.std.proofs.Common.{◌+◌, arith, ◌==◌}
 use Rattle.bit_field.proofs.Located.{is_located}
 use Rattle.bit_field.specs.declared.places.Structure.TheVariants.{IdEx}
 use Rattle.pipe_latch.specs.DecodedBits as idex

@@ -1,4 +1,4 @@
-use Rattle.std.proofs.Common.{ℕ, ◌≡◌, ap, ◌∙◌, subst, arith}
+use Rattle.std.proofs.Common.{ℕ, ap, ◌∙◌, subst, arith}
 use Rattle.bit_field.specs.Shapes.{bits_in}
 use Rattle.ace_rules.specs.Notes.{Story, moment}
 use Rattle.ace_rules.specs.Tallies.{HasClass, IsAdded}

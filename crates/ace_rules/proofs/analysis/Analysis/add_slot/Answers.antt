@@ -1,9 +1,8 @@
-use Rattle.std.proofs.Common.{ℕ, ◌+◌, ◌≡◌, ap, refl, ◌∙◌, subst, arith}
-use Rattle.ace_class.specs.declared.class.Class.{Class}
+use Rattle.std.proofs.Common.{ℕ, ◌+◌, ◌≡◌, ◌∙◌, subst, arith}
 use Rattle.ace_class.specs.declared.class.Class.TheVariants.{UnAce}
 use Rattle.ace_class.specs.declared.class.Rule.TheVariants.{EmptyPlace}
 use Rattle.ace_rules.specs.Notes.{moment}
-use Rattle.ace_rules.specs.Tallies.{HasClass, IsAdded}
+use Rattle.ace_rules.specs.Tallies.{HasClass}
 use Rattle.ace_rules.proofs.Tallies.{added-all, added-behind, added-most}
 use Rattle.ace_rules.proofs.analysis.Analysis.add_slot.Goals as goal
 

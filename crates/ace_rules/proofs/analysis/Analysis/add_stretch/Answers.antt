@@ -1,5 +1,4 @@
-use Rattle.std.proofs.Common.{ℕ, ◌+◌, ◌≡◌, ◌∙◌, arith, subst}
-use Rattle.ace_class.specs.declared.class.Class.{Class}
+use Rattle.std.proofs.Common.{ℕ, ◌+◌, ◌∙◌, arith, subst}
 use Rattle.ace_rules.specs.Notes.{moment}
 use Rattle.ace_rules.specs.Tallies.{HasClass, IsAdded}
 use Rattle.ace_rules.proofs.OneClass.{one_each}
