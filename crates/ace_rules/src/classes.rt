@@ -76,8 +76,9 @@ fn class_in(
 }
 
 impl Analysis<'_> {
-    ghost use Rattle.std.specs.Prelude.{◌≡◌, ◌<◌, ◌≤◌};
+    ghost use Rattle.std.specs.Prelude.{◌≡◌, ◌<◌, ◌≤◌, ℕ};
     ghost use Rattle.bit_field.specs.Shapes.{IsPlaceIn};
+    ghost use Rattle.bit_field.specs.declared.places.Place.{Place};
     ghost use Rattle.ace_class.specs.declared.class.Class.TheVariants.{UnAce};
     ghost use Rattle.ace_class.specs.declared.class.Rule.{Rule};
     ghost use Rattle.run_record.specs.Verdict.{HasSame, flipped};
@@ -106,6 +107,15 @@ impl Analysis<'_> {
             place,
             cycle,
         )
+    }
+
+    /// Changes nothing; says that what is un-ACE is harmless, for all bits and cycles of the run.
+    pub fn un_ace_is_harmless(&self)
+        ensures { (place : Place) (cycle : ℕ) (rule : Rule) → IsPlaceIn self.now.r.shape place → cycle < self.now.r.cycles
+            → IsClass (UnAce rule) (moment self.now cycle) place → HasSame self.now.r cycle (flipped self.now.r cycle place) }
+    {
+        un_ace_law();
+        let _quiet = self.quiet;
     }
 
     /// A cycle above `cycle`, at most the number of cycles of the run, up to before which the bit at the place has the class that it has in
