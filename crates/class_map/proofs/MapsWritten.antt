@@ -55,9 +55,11 @@ grown_more None (Some y) (Some z) xs ys p q = absurd p
 grown_more (Some x) (Some y) (Some z) xs ys p q = q ∙ ap (λ l. l ++ ys) p ∙ append_assoc x xs ys
 
 front_more : (a b c : Option (List ℕ)) (xs ys : List ℕ) → Grows a b xs → GrowsByFront b c ys → GrowsByFront a c (xs ++ ys)
-front_more a b c xs ys p q =
-    (length xs + q.0, (let e : length (xs ++ ys) ≡ length xs + length ys = length-append xs ys in let l = q.1 in omega (arith, e, l)),
-    subst (Grows a c) (sym (take-append-add xs ys q.0)) (grown_more a b c xs (take q.0 ys) p q.2))
+front_more a b c xs ys p q = (
+  length xs + q.0,
+  (let e : length (xs ++ ys) ≡ length xs + length ys = length-append xs ys in let l = q.1 in omega (arith, e, l)),
+  subst (Grows a c) (sym (take-append-add xs ys q.0)) (grown_more a b c xs (take q.0 ys) p q.2),
+)
 
 -- the first lines are written, up to this one
 pub record IsSoFar (story : Story) (old new : Option (List ℕ)) (last : Option MapLine) : Type 0 where

@@ -23,6 +23,9 @@ own : IsNumeralModel (λ ds. list_all is_digit ds ≡ true) (worth 0)
 unfolding worth
 own = numerals_by_fold _ (search rules) worth (search rules)
 
+pub digits : (n : ℕ) → n < 2 ^ 64 → list_all is_digit (decimal n) ≡ true
+digits n h = digits_decimal own n h
+
 plain_decimal : (n : ℕ) → n < 2 ^ 64 → is_plain (decimal n) ≡ true
 plain_decimal n h = elim (cases_eq n 0) [
   | inl e ↦ rw e (ap is_plain (decimal_digit 0 (omega arith)))
@@ -54,7 +57,7 @@ no_blank w = list_all (λ b. not (b == blank)) w
 digit_no_blank : (b : ℕ) → is_digit b ≡ true → not (b == blank) ≡ true
 digit_no_blank b h = grind (arith, nat_tests)
 
-parts : (a b : Bool) → (a && b) ≡ true → (a ≡ true) × (b ≡ true)
+pub parts : (a b : Bool) → (a && b) ≡ true → (a ≡ true) × (b ≡ true)
 parts true b h = (refl, h)
 parts false b h = absurd (never h) where
   never : false ≡ true → ⊥

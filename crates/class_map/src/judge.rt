@@ -131,11 +131,7 @@ fn meant(
 
 // What the next line says, or its first fault but for that of its classes.
 #[tactic(auto, unfolding(crate::specs::Faults::says))]
-fn says(
-    recorded: &Recorded<'_>,
-    progress: &Progress,
-    text: &[u8],
-) -> Result<Option<MapLine>, Fault>
+fn says(recorded: &Recorded<'_>, progress: &Progress, text: &[u8]) -> Result<Option<MapLine>, Fault>
     ensures is { result ≡ spec.says recorded.now progress.now text.now }
     ensures fit { IfOk result (IsFit recorded.now progress.now) }
     ensures short { OnOk result (length text.now ≤ LONGEST_LINE) }

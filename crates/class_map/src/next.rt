@@ -125,11 +125,7 @@ fn line_in(a: &Analysis<'_>, structure: Structure, before: Option<&MapLine>) -> 
 }
 
 // The first line in these structures that follows the line before.
-fn line_among(
-    a: &Analysis<'_>,
-    among: &[Structure],
-    before: Option<&MapLine>,
-) -> Option<MapLine>
+fn line_among(a: &Analysis<'_>, among: &[Structure], before: Option<&MapLine>) -> Option<MapLine>
     requires all { among.now ≡ structures }
     requires before { IfSome before (λ line. IsMapLine a.now line.now) }
     ensures { IsNext a.now (option_map (λ line. line.now) before.entry) result }

@@ -1,7 +1,7 @@
 use Rattle.std.proofs.Common.{◌∙◌, ◌+◌, take, arith}
 use Rattle.std.proofs.lemmas.Result.{err_from_is_err_and}
 use Rattle.class_map.proofs.Rounds.{end_answer, free_on, kept_on, left_room, long_answer, read_on, refused_there, same_kept}
-use Rattle.class_map.proofs.check.check_map.Goals as goal
+use Rattle.class_map.proofs.check.read_map.Goals as goal
 
 pub returns-then-read-eq0-clause-checked : goal.returns-then-read-eq0-clause-checked
 returns-then-read-eq0-clause-checked g c =
