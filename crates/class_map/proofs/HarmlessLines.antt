@@ -12,7 +12,7 @@ use Rattle.ace_class.specs.declared.class.Class.TheVariants.{UnAce}
 use Rattle.ace_class.specs.declared.class.Rule.{Rule}
 use Rattle.ace_law.specs.Classes.{IsClass}
 use Rattle.ace_rules.specs.Notes.{Story, moment}
-use Rattle.class_map.specs.Checks.{ArePassed, IsAccepted, IsChecked, IsHarmless, IsSpellable, Passes}
+use Rattle.class_map.specs.Checks.{ArePassed, IsAccepted, IsChecked, IsHarmless, Passes}
 use Rattle.class_map.specs.Faults.{FileLine, behind, is_within, lines_of, meant, ordered, placed, says, start}
 use Rattle.class_map.specs.Lines.{follows}
 use Rattle.class_map.specs.Maps.{IsRight}
@@ -20,7 +20,7 @@ use Rattle.class_map.specs.Spellings.{said}
 use Rattle.class_map.specs.Texts.{spelled}
 use Rattle.class_map.specs.declared.error.MapError.{MapError}
 use Rattle.class_map.specs.declared.fault.Fault.{Fault}
-use Rattle.class_map.specs.declared.fault.Fault.TheVariants.{Misspelled, OutOfOrder, OutOfRange}
+use Rattle.class_map.specs.declared.fault.Fault.TheVariants.{OutOfOrder, OutOfRange}
 use Rattle.class_map.specs.declared.judge.TheConstants.{LONGEST_LINE}
 use Rattle.class_map.specs.declared.map_line.MapLine.{MapLine}
 use Rattle.class_map.specs.declared.progress.Progress.{Progress}

@@ -10,8 +10,8 @@ use Rattle.ace_class.proofs.Sizes.{bits_in_most}
 use Rattle.ace_rules.specs.Notes.{Story}
 use Rattle.class_map.specs.Bounds.{IsFurther, furthest, reach}
 use Rattle.class_map.specs.Lines.{pairs_of}
-use Rattle.class_map.specs.Maps.{AreAllNext, AreFirst, AreNext, IsMapLine, IsNext, IsNextLine}
-use Rattle.class_map.specs.Texts.{ended, head_text, lines_text, map_text, spelled}
+use Rattle.class_map.specs.Maps.{AreAllNext, AreFirst, AreNext, IsNext, IsNextLine}
+use Rattle.class_map.specs.Texts.{ended, head_text, lines_text, spelled}
 use Rattle.class_map.specs.Written.{IsFrontWritten, IsMapWritten, text_of}
 use Rattle.class_map.specs.declared.map_line.MapLine.{MapLine}
 use Rattle.class_map.proofs.Reaches.{reach-most, reaches}

@@ -1,5 +1,5 @@
 -- A file is accepted, or it has a first fault, and not both.
-use Rattle.std.proofs.Common.{◌≡◌, ℕ, ◌<◌, ◌≤◌, List, [], ◌∷◌, ◌++◌, Option, None, Some, IfSome, sym, ap, ◌∙◌, subst, inl, inr, arith}
+use Rattle.std.proofs.Common.{◌≡◌, ℕ, ◌≤◌, List, [], ◌∷◌, ◌++◌, Option, Some, IfSome, sym, ap, ◌∙◌, subst, inl, inr, arith}
 use Rattle.std.specs.Prelude.{Result, Ok, Err}
 use Rattle.ace_rules.specs.Notes.{Story}
 use Rattle.class_map.specs.Checks.{ArePassed, HasFault, IsAccepted, IsFirstFault, IsWrong, Passes, StopsAt}

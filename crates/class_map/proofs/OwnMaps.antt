@@ -1,7 +1,7 @@
 -- The map of a run is accepted.
-use Rattle.std.proofs.Common.{◌≡◌, ℕ, ◌+◌, ◌<◌, ◌≤◌, ◌^◌, Bool, true, false, not, ◌&&◌, List, [], ◌∷◌, ◌++◌, length, map, Option, None, Some, refl, sym, ap, ◌∙◌, subst, append_assoc, append-nil, sum_by, arith, rules}
+use Rattle.std.proofs.Common.{◌≡◌, ℕ, ◌+◌, ◌<◌, ◌≤◌, ◌^◌, Bool, true, false, not, ◌&&◌, List, [], ◌∷◌, ◌++◌, length, map, Option, None, Some, refl, sym, ap, ◌∙◌, subst, append_assoc, append-nil, sum_by, arith}
 use Rattle.std.specs.Prelude.{Ok, codes, decimal, nat_le, nat_lt, ◌==◌}
-use Rattle.std.specs.List.{AllByRecursion, flat_map, join_with_byte, list_all}
+use Rattle.std.specs.List.{join_with_byte, list_all}
 use Rattle.std.proofs.lemmas.Bool.Decides.{nat_tests}
 use Rattle.std.proofs.lemmas.Fmt.{length-decimal-le}
 use Rattle.std.proofs.Math.ListN.{length-append}
@@ -26,7 +26,7 @@ use Rattle.class_map.specs.Maps.{AreAllNext, AreAll, IsMapLine, IsNextLine}
 use Rattle.class_map.specs.Pieces.{HasNoFeed}
 use Rattle.class_map.specs.Spellings.{is_digit, number_behind, said}
 use Rattle.class_map.specs.Spellings.{behind as behind_front}
-use Rattle.class_map.specs.Texts.{blank, cycles_line, ended, head_text, instructions_line, line_feed, lines_text, spelled, title}
+use Rattle.class_map.specs.Texts.{blank, cycles_line, instructions_line, line_feed, lines_text, spelled, title}
 use Rattle.class_map.specs.Written.{text_of}
 use Rattle.class_map.specs.declared.judge.TheConstants.{LONGEST_LINE}
 use Rattle.class_map.specs.declared.map_line.MapLine.{MapLine}

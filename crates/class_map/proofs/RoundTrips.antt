@@ -1,8 +1,8 @@
 -- A line that is spelled is read as it was.
-use Rattle.std.proofs.Common.{◌≡◌, ℕ, suc, ◌+◌, ◌<◌, ◌^◌, Bool, true, false, not, ◌&&◌, List, [], ◌∷◌, ◌++◌, length, take, drop, get_or, Option, Some, refl, sym, ap, ◌∙◌, subst, inl, inr, arith, rules, cond}
-use Rattle.std.specs.Prelude.{codes, decimal, nat_eq, nat_lt, slice_index, ◌==◌}
-use Rattle.std.specs.List.{list_all, position_or_len, join_with_byte}
-use Rattle.std.proofs.lemmas.Bool.{cases_Bool, cases_eq}
+use Rattle.std.proofs.Common.{◌≡◌, ℕ, suc, ◌+◌, ◌<◌, ◌^◌, Bool, true, false, not, ◌&&◌, List, [], ◌∷◌, ◌++◌, length, take, drop, get_or, Some, refl, ap, ◌∙◌, inl, inr, arith, rules, cond}
+use Rattle.std.specs.Prelude.{codes, decimal, nat_lt, ◌==◌}
+use Rattle.std.specs.List.{list_all, position_or_len}
+use Rattle.std.proofs.lemmas.Bool.{cases_eq}
 use Rattle.std.proofs.lemmas.Bool.Decides.{nat_tests}
 use Rattle.std.proofs.lemmas.Fmt.{decimal_digit, decimal_nonempty, digits_decimal, digits_value-decimal, first_decimal}
 use Rattle.std.proofs.lemmas.Str.Parse.{IsNumeralModel, numerals_by_fold}
@@ -13,7 +13,7 @@ use Rattle.bit_field.specs.declared.places.Structure.{Structure}
 use Rattle.bit_field.specs.declared.places.Structure.TheVariants.{Pc, Npc, Bht, Btb, Ib, IdEx, ExMem, MemWb}
 use Rattle.bit_field.specs.declared.places.Structure.TheVariants.{Rf, Sb, Port, CData, CTag, CValid, CDirty, CLru}
 use Rattle.class_map.specs.Checks.{IsSpellable}
-use Rattle.class_map.specs.Spellings.{Said, a_word, behind, first_word, is_digit, is_numeral, is_plain, numeral, number_behind, said, structure_of, worth}
+use Rattle.class_map.specs.Spellings.{Said, a_word, behind, first_word, is_digit, is_numeral, is_plain, numeral, said, structure_of, worth}
 use Rattle.class_map.specs.Texts.{blank, spelled}
 use Rattle.class_map.specs.declared.map_line.MapLine.{MapLine}
 
