@@ -1,5 +1,6 @@
 // A map from a file, checked in pieces.
-ghost use Rattle.std.specs.Prelude.{◌≡◌, ◌<◌, ◌≤◌, ◌+◌, ◌*◌, ◌^◌, ◌==◌, if◌then◌else◌, List, ℕ, IfErr, IfOk, IfSome, MatchOption, OnErr, OnOk, drop, length, take};
+ghost use Rattle.std.specs.Prelude.{◌≡◌, ◌<◌, ◌≤◌, ◌+◌, ◌*◌, ◌^◌, ◌==◌, if◌then◌else◌, List};
+ghost use Rattle.std.specs.Prelude.{ℕ, IfErr, IfOk, IfSome, MatchOption, OnErr, OnOk, drop, length, take};
 ghost use Rattle.avf_base.specs.Causes.{HasCause};
 ghost use Rattle.class_map.specs.Bounds.{IsBounded};
 ghost use Rattle.class_map.specs.Checks.{IsChecked, IsHarmless};

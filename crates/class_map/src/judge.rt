@@ -1,5 +1,6 @@
 // One more line of a file, judged.
-ghost use Rattle.std.specs.Prelude.{◌≡◌, ◌≤◌, ◌+◌, Err, IfErr, IfOk, IfSome, IsTrue, MatchOption, None, Ok, OnErr, OnOk, Some, false, true, if◌then◌else◌, length, option_map};
+ghost use Rattle.std.specs.Prelude.{◌≡◌, ◌≤◌, ◌+◌, Err, IfErr, IfOk, IfSome, IsTrue, MatchOption};
+ghost use Rattle.std.specs.Prelude.{None, Ok, OnErr, OnOk, Some, false, true, if◌then◌else◌, length, option_map};
 ghost use Rattle.bit_field.specs.Shapes.{IsPlaceIn, IsShape};
 ghost use Rattle.class_map.specs.Bounds.{IsBounded, IsFurther};
 ghost use Rattle.class_map.specs.Checks.{HasFault, IsWrong, Passes};
