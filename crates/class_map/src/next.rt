@@ -1,5 +1,6 @@
 // The lines of the map of a run, one after the other.
-ghost use Rattle.std.specs.Prelude.{◌≡◌, ◌<◌, ◌≤◌, ◌+◌, ◌==◌, ◌↔◌, ℕ, IfSome, IsTrue, Some, if◌then◌else◌, option_map};
+ghost use Rattle.std.specs.Prelude.{◌≡◌, ◌<◌, ◌≤◌, ◌+◌, ◌==◌, ◌↔◌};
+ghost use Rattle.std.specs.Prelude.{ℕ, IfSome, IsTrue, Some, if◌then◌else◌, option_map};
 ghost use Rattle.bit_field.specs.Shapes.{IsPlaceIn, bits_in};
 ghost use Rattle.ace_class.specs.Counts.{place_of, structures};
 ghost use Rattle.ace_class.specs.declared.class.Class.TheVariants.{Ace};
