@@ -1,5 +1,5 @@
 -- The lines of one bit.
-use Rattle.std.proofs.Common.{◌≡◌, ℕ, ◌+◌, ◌-◌, ◌<◌, ◌≤◌, ◌⊎◌, Option, None, Some, refl, sym, ap, ◌∙◌, subst, inl, inr, arith}
+use Rattle.std.proofs.Common.{◌≡◌, ℕ, ◌+◌, ◌-◌, ◌<◌, ◌≤◌, ◌⊎◌, sym, ap, ◌∙◌, subst, inl, inr, arith}
 use Rattle.std.proofs.lemmas.Bool.{cases_lt, cases_order}
 use Rattle.bit_field.specs.declared.places.Place.{Place}
 use Rattle.ace_rules.specs.Notes.{Story}
@@ -81,9 +81,9 @@ first_or_behind story place from line other first is e h = elim (cases_lt other.
       absurd (ace_not story place other.from other.rule (first.ace other.from h less)
       (at_place story other.place place other.from other.rule e (is.right other.from (omega arith) is.some)))
   | inr more ↦ elim (cases_lt other.from line.to) [
-      | inl inside ↦
-          let p : line.place ≡ other.place = first.place_is ∙ sym e in
-          inl (alike story line other first.is is p (begin_together story line other first.is is p more inside))
-      | inr behind ↦ inr behind
-    ]
+    | inl inside ↦
+        let p : line.place ≡ other.place = first.place_is ∙ sym e in
+        inl (alike story line other first.is is p (begin_together story line other first.is is p more inside))
+    | inr behind ↦ inr behind
+  ]
 ]

@@ -1,6 +1,6 @@
 -- What is said in a file that is accepted is harmless.
 use Rattle.std.proofs.Common.{◌≡◌, ℕ, ◌+◌, ◌<◌, ◌≤◌, Bool, true, false, ◌&&◌, List, [], ◌∷◌, ◌++◌, length, Option, None, Some, IfSome, refl, sym, ap, ◌∙◌, subst, inl, inr, arith}
-use Rattle.std.specs.Prelude.{Ok, Err, nat_le, nat_lt, ◌==◌, if◌then◌else◌}
+use Rattle.std.specs.Prelude.{Result, OnOk, Ok, Err, nat_le, nat_lt, ◌==◌, if◌then◌else◌}
 use Rattle.std.proofs.lemmas.Bool.{cases_Bool}
 use Rattle.std.proofs.lemmas.Bool.Decides.{nat_tests}
 use Rattle.bit_field.specs.Shapes.{IsPlaceIn, bits_in}
@@ -12,14 +12,15 @@ use Rattle.ace_class.specs.declared.class.Class.TheVariants.{UnAce}
 use Rattle.ace_class.specs.declared.class.Rule.{Rule}
 use Rattle.ace_law.specs.Classes.{IsClass}
 use Rattle.ace_rules.specs.Notes.{Story, moment}
-use Rattle.class_map.specs.Checks.{ArePassed, IsAccepted, IsHarmless, IsSpellable, Passes}
+use Rattle.class_map.specs.Checks.{ArePassed, IsAccepted, IsChecked, IsHarmless, Passes}
 use Rattle.class_map.specs.Faults.{FileLine, behind, is_within, lines_of, meant, ordered, placed, says, start}
 use Rattle.class_map.specs.Lines.{follows}
 use Rattle.class_map.specs.Maps.{IsRight}
 use Rattle.class_map.specs.Spellings.{said}
 use Rattle.class_map.specs.Texts.{spelled}
+use Rattle.class_map.specs.declared.error.MapError.{MapError}
 use Rattle.class_map.specs.declared.fault.Fault.{Fault}
-use Rattle.class_map.specs.declared.fault.Fault.TheVariants.{Misspelled, OutOfOrder, OutOfRange}
+use Rattle.class_map.specs.declared.fault.Fault.TheVariants.{OutOfOrder, OutOfRange}
 use Rattle.class_map.specs.declared.judge.TheConstants.{LONGEST_LINE}
 use Rattle.class_map.specs.declared.map_line.MapLine.{MapLine}
 use Rattle.class_map.specs.declared.progress.Progress.{Progress}
@@ -63,13 +64,13 @@ late run p text head h e = elim (cases_Bool (nat_lt LONGEST_LINE (length text)))
       rw (short, a, b, c) at e
 ]
 
-placed_is : (shape : Shape) (cycles : ℕ) (line : MapLine) (b : Bool) → is_within shape cycles line.place.structure (words_of line) ≡ b
+pub placed_is : (shape : Shape) (cycles : ℕ) (line : MapLine) (b : Bool) → is_within shape cycles line.place.structure (words_of line) ≡ b
     → placed shape cycles (words_of line) ≡ (if b then Some line else None)
 unfolding placed
 placed_is shape cycles line b e = rw (name_means line.place.structure, e) refl
 
 in_order : (before : Option MapLine) (line : MapLine) (head : Option MapLine) (b : Bool)
-    → (if b then Ok {T = Option MapLine} {E = Fault} (Some line) else Err OutOfOrder) ≡ Ok head → head ≡ Some line
+    → ◌≡◌ {A = Result (Option MapLine) Fault} (if b then Ok (Some line) else Err OutOfOrder) (Ok head) → head ≡ Some line
 in_order before line head true e = cc
 in_order before line head false e = absurd (cc)
 
@@ -79,7 +80,7 @@ meant_is shape cycles before line head e = elim (cases_Bool (is_within shape cyc
   | inl inside ↦
       (in_order before line head (follows before line) (sym (ap (ordered before) (placed_is shape cycles line true inside)) ∙ e), inside)
   | inr outside ↦
-      let bad : Err {T = Option MapLine} {E = Fault} OutOfRange ≡ Ok head = sym (ap (ordered before) (placed_is shape cycles line false outside)) ∙ e in absurd (cc)
+      let bad : ◌≡◌ {A = Result (Option MapLine) Fault} (Err OutOfRange) (Ok head) = sym (ap (ordered before) (placed_is shape cycles line false outside)) ∙ e in absurd (cc)
 ]
 
 parts : (bit bits from to cycles rule : ℕ) → (nat_lt bit bits && nat_lt from to && nat_le to cycles && nat_le 1 rule && nat_le rule 13) ≡ true
@@ -112,3 +113,8 @@ pub known_harmless : (story : Story) (known : Option (List ℕ)) (pairs : ℕ) �
     → IfSome known (λ bytes. IsAccepted story (lines_of bytes) pairs) → IfSome known (IsHarmless story)
 known_harmless story None pairs law h = tt
 known_harmless story (Some contents) pairs law h = file_harmless story contents pairs law h
+
+pub harmless_answer : (story : Story) (known : Option (List ℕ)) (before now : ℕ) (result : Result ℕ MapError) → UnAceHarmless story
+    → IsChecked story known before now result → OnOk result (IfSome known (IsHarmless story))
+harmless_answer story known before now (Ok pairs) law h = known_harmless story known pairs law h
+harmless_answer story known before now (Err error) law h = tt

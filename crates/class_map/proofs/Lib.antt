@@ -12,3 +12,5 @@ mod Checked
 mod Rounds
 mod RoundTrips
 mod HarmlessLines
+mod Outcomes
+mod OwnMaps

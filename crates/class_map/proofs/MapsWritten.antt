@@ -10,8 +10,8 @@ use Rattle.ace_class.proofs.Sizes.{bits_in_most}
 use Rattle.ace_rules.specs.Notes.{Story}
 use Rattle.class_map.specs.Bounds.{IsFurther, furthest, reach}
 use Rattle.class_map.specs.Lines.{pairs_of}
-use Rattle.class_map.specs.Maps.{AreAllNext, AreFirst, AreNext, IsMapLine, IsNext, IsNextLine}
-use Rattle.class_map.specs.Texts.{ended, head_text, lines_text, map_text, spelled}
+use Rattle.class_map.specs.Maps.{AreAllNext, AreFirst, AreNext, IsNext, IsNextLine}
+use Rattle.class_map.specs.Texts.{ended, head_text, lines_text, spelled}
 use Rattle.class_map.specs.Written.{IsFrontWritten, IsMapWritten, text_of}
 use Rattle.class_map.specs.declared.map_line.MapLine.{MapLine}
 use Rattle.class_map.proofs.Reaches.{reach-most, reaches}
@@ -55,9 +55,11 @@ grown_more None (Some y) (Some z) xs ys p q = absurd p
 grown_more (Some x) (Some y) (Some z) xs ys p q = q ∙ ap (λ l. l ++ ys) p ∙ append_assoc x xs ys
 
 front_more : (a b c : Option (List ℕ)) (xs ys : List ℕ) → Grows a b xs → GrowsByFront b c ys → GrowsByFront a c (xs ++ ys)
-front_more a b c xs ys p q =
-    (length xs + q.0, (let e : length (xs ++ ys) ≡ length xs + length ys = length-append xs ys in let l = q.1 in omega (arith, e, l)),
-    subst (Grows a c) (sym (take-append-add xs ys q.0)) (grown_more a b c xs (take q.0 ys) p q.2))
+front_more a b c xs ys p q = (
+  length xs + q.0,
+  (let e : length (xs ++ ys) ≡ length xs + length ys = length-append xs ys in let l = q.1 in omega (arith, e, l)),
+  subst (Grows a c) (sym (take-append-add xs ys q.0)) (grown_more a b c xs (take q.0 ys) p q.2),
+)
 
 -- the first lines are written, up to this one
 pub record IsSoFar (story : Story) (old new : Option (List ℕ)) (last : Option MapLine) : Type 0 where

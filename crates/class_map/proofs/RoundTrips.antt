@@ -1,8 +1,8 @@
 -- A line that is spelled is read as it was.
-use Rattle.std.proofs.Common.{◌≡◌, ℕ, suc, ◌+◌, ◌<◌, ◌^◌, Bool, true, false, not, ◌&&◌, List, [], ◌∷◌, ◌++◌, length, take, drop, get_or, Option, Some, refl, sym, ap, ◌∙◌, subst, inl, inr, arith, rules, cond}
-use Rattle.std.specs.Prelude.{codes, decimal, nat_eq, nat_lt, slice_index, ◌==◌}
-use Rattle.std.specs.List.{list_all, position_or_len, join_with_byte}
-use Rattle.std.proofs.lemmas.Bool.{cases_Bool, cases_eq}
+use Rattle.std.proofs.Common.{◌≡◌, ℕ, suc, ◌+◌, ◌<◌, ◌^◌, Bool, true, false, not, ◌&&◌, List, [], ◌∷◌, ◌++◌, length, take, drop, get_or, Some, refl, ap, ◌∙◌, inl, inr, arith, rules, cond}
+use Rattle.std.specs.Prelude.{codes, decimal, nat_lt, ◌==◌}
+use Rattle.std.specs.List.{list_all, position_or_len}
+use Rattle.std.proofs.lemmas.Bool.{cases_eq}
 use Rattle.std.proofs.lemmas.Bool.Decides.{nat_tests}
 use Rattle.std.proofs.lemmas.Fmt.{decimal_digit, decimal_nonempty, digits_decimal, digits_value-decimal, first_decimal}
 use Rattle.std.proofs.lemmas.Str.Parse.{IsNumeralModel, numerals_by_fold}
@@ -13,7 +13,7 @@ use Rattle.bit_field.specs.declared.places.Structure.{Structure}
 use Rattle.bit_field.specs.declared.places.Structure.TheVariants.{Pc, Npc, Bht, Btb, Ib, IdEx, ExMem, MemWb}
 use Rattle.bit_field.specs.declared.places.Structure.TheVariants.{Rf, Sb, Port, CData, CTag, CValid, CDirty, CLru}
 use Rattle.class_map.specs.Checks.{IsSpellable}
-use Rattle.class_map.specs.Spellings.{Said, a_word, behind, first_word, is_digit, is_numeral, is_plain, numeral, number_behind, said, structure_of, worth}
+use Rattle.class_map.specs.Spellings.{Said, a_word, behind, first_word, is_digit, is_numeral, is_plain, numeral, said, structure_of, worth}
 use Rattle.class_map.specs.Texts.{blank, spelled}
 use Rattle.class_map.specs.declared.map_line.MapLine.{MapLine}
 
@@ -22,6 +22,9 @@ use Rattle.class_map.specs.declared.map_line.MapLine.{MapLine}
 own : IsNumeralModel (λ ds. list_all is_digit ds ≡ true) (worth 0)
 unfolding worth
 own = numerals_by_fold _ (search rules) worth (search rules)
+
+pub digits : (n : ℕ) → n < 2 ^ 64 → list_all is_digit (decimal n) ≡ true
+digits n h = digits_decimal own n h
 
 plain_decimal : (n : ℕ) → n < 2 ^ 64 → is_plain (decimal n) ≡ true
 plain_decimal n h = elim (cases_eq n 0) [
@@ -54,7 +57,7 @@ no_blank w = list_all (λ b. not (b == blank)) w
 digit_no_blank : (b : ℕ) → is_digit b ≡ true → not (b == blank) ≡ true
 digit_no_blank b h = grind (arith, nat_tests)
 
-parts : (a b : Bool) → (a && b) ≡ true → (a ≡ true) × (b ≡ true)
+pub parts : (a b : Bool) → (a && b) ≡ true → (a ≡ true) × (b ≡ true)
 parts true b h = (refl, h)
 parts false b h = absurd (never h) where
   never : false ≡ true → ⊥

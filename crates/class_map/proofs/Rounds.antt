@@ -203,9 +203,9 @@ untold_end : (story : Story) (before now n : ℕ) (p : Progress) → IsChecked s
 untold_end story before now n p = elim (cases_lt 0 n) [
   | inl some ↦ subst (IsChecked story None before now) (sym (left_over p n some)) tt
   | inr none ↦ elim (cases_lt p.seen 3) [
-      | inl less ↦ subst (λ (k : ℕ). IsChecked story None before now (ended p k)) (empty n none) (subst (IsChecked story None before now) (sym (too_few p less)) tt)
-      | inr more ↦ subst (λ (k : ℕ). IsChecked story None before now (ended p k)) (empty n none) (subst (IsChecked story None before now) (sym (enough p more)) tt)
-    ]
+    | inl less ↦ subst (λ (k : ℕ). IsChecked story None before now (ended p k)) (empty n none) (subst (IsChecked story None before now) (sym (too_few p less)) tt)
+    | inr more ↦ subst (λ (k : ℕ). IsChecked story None before now (ended p k)) (empty n none) (subst (IsChecked story None before now) (sym (enough p more)) tt)
+  ]
 ]
 
 pub ended_here : (story : Story) (known : Option (List ℕ)) (before now at : ℕ) (bytes : List ℕ) (p : Progress) → IsRead story known at p → IsKept known at bytes

@@ -1,5 +1,5 @@
 -- What is due to a file that is checked: it is accepted, or its first fault is told.
-use Rattle.std.specs.Prelude.{◌≡◌, ◌⊎◌, ℕ, ◌+◌, ◌<◌, ◌≤◌, ◌^◌, List, [], ◌∷◌, ◌++◌, Option, None, Some, IfSome, Result, Ok, Err, length, true}
+use Rattle.std.specs.Prelude.{◌≡◌, ◌⊎◌, ℕ, ◌+◌, ◌<◌, ◌≤◌, ◌^◌, List, [], ◌∷◌, ◌++◌, Option, Some, IfSome, Result, Ok, Err, length, true}
 use Rattle.avf_base.specs.Causes.{Rose}
 use Rattle.run_record.specs.Verdict.{HasSame, flipped}
 use Rattle.ace_rules.specs.Notes.{Story}

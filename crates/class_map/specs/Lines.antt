@@ -1,5 +1,5 @@
 -- Lines of maps: their order, and what they say of how many pairs of a bit and a cycle.
-use Rattle.std.specs.Prelude.{ℕ, ◌-◌, Bool, true, ◌==◌, ◌&&◌, ◌||◌, nat_lt, nat_le, if◌then◌else◌, Option, None, Some}
+use Rattle.std.specs.Prelude.{ℕ, ◌-◌, Bool, true, ◌==◌, nat_lt, nat_le, if◌then◌else◌, Option, None, Some}
 use Rattle.bit_field.specs.declared.places.Structure.{Structure}
 use Rattle.ace_class.specs.Counts.{place_of}
 use Rattle.class_map.specs.declared.map_line.MapLine.{MapLine}

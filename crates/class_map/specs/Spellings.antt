@@ -1,8 +1,7 @@
 -- What a line of a file says, by its words.
 use Rattle.std.specs.Prelude.{ℕ, ◌+◌, ◌*◌, ◌-◌, ◌^◌, ◌==◌, Bool, not, ◌&&◌, ◌||◌, nat_eq, nat_lt, nat_le, if◌then◌else◌}
-use Rattle.std.specs.Prelude.{List, [], ◌∷◌, length, slice_index, take, drop, codes, bytes_eq, Option, Some, None, option_map}
+use Rattle.std.specs.Prelude.{List, [], ◌∷◌, length, slice_index, take, drop, codes, bytes_eq, Option, Some, None}
 use Rattle.std.specs.List.{find, list_all, position_or_len, starts_with}
-use Rattle.std.specs.Option.{option_and_then}
 use Rattle.bit_field.specs.Names.{name_of}
 use Rattle.bit_field.specs.declared.places.Structure.{Structure}
 use Rattle.ace_class.specs.Counts.{structures}

@@ -1,5 +1,5 @@
 -- How a map is spelled: lines of words.
-use Rattle.std.specs.Prelude.{ℕ, List, [], ◌∷◌, ◌++◌, codes, decimal, map}
+use Rattle.std.specs.Prelude.{ℕ, List, [], ◌∷◌, ◌++◌, codes, decimal}
 use Rattle.std.specs.List.{flat_map, join_with_byte}
 use Rattle.bit_field.specs.Names.{name_of}
 use Rattle.class_map.specs.declared.map_line.MapLine.{MapLine}

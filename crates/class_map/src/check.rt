@@ -1,5 +1,6 @@
 // A map from a file, checked in pieces.
-ghost use Rattle.std.specs.Prelude.{◌≡◌, ◌<◌, ◌≤◌, ◌+◌, ◌*◌, ◌^◌, ◌==◌, if◌then◌else◌, List, ℕ, IfErr, IfOk, IfSome, MatchOption, OnErr, OnOk, drop, length, take};
+ghost use Rattle.std.specs.Prelude.{◌≡◌, ◌<◌, ◌≤◌, ◌+◌, ◌*◌, ◌^◌, ◌==◌, if◌then◌else◌, List};
+ghost use Rattle.std.specs.Prelude.{ℕ, IfErr, IfOk, IfSome, MatchOption, OnErr, OnOk, drop, length, take};
 ghost use Rattle.avf_base.specs.Causes.{HasCause};
 ghost use Rattle.class_map.specs.Bounds.{IsBounded};
 ghost use Rattle.class_map.specs.Checks.{IsChecked, IsHarmless};
@@ -49,11 +50,7 @@ fn next_text(piece: &[u8], used: usize) -> Option<&[u8]>
 
 // Judges the whole lines of a piece, and answers how many bytes they take.
 #[tactic(auto, using(crate::proofs::Checked::judged_none, crate::proofs::Checked::judged_all, crate::proofs::Checked::refused_next))]
-fn judge_lines(
-    a: &Analysis<'_>,
-    progress: &mut Progress,
-    piece: &[u8],
-) -> Result<usize, MapError>
+fn judge_lines(a: &Analysis<'_>, progress: &mut Progress, piece: &[u8]) -> Result<usize, MapError>
     requires bounded { IsBounded progress.old }
     ensures ok { IfOk result (λ used. pieces.AreJudged a.now progress.old piece.now used progress.new) }
     ensures err { IfErr result (pieces.IsRefusal a.now progress.old piece.now) }
@@ -111,14 +108,8 @@ fn left_behind(used: usize, there: usize) -> usize
     if used == 0 { there } else { 0 }
 }
 
-/// Checks a map: the three first lines name the run, each further line comes after the one before, and each pair of a bit and a cycle
-/// that a line names is un-ACE by its rule. On `Ok` it answers how many pairs the lines name. It reads at most 4,096 bytes at a time, judges
-/// whole lines before it reads on, ends on every file and takes no memory.
-pub fn check_map<H: Shelf>(
-    a: &Analysis<'_>,
-    shelf: &mut H,
-    name: &str,
-) -> Result<u64, MapError>
+// Reads a map to its first fault or to its end.
+fn read_map<H: Shelf>(a: &Analysis<'_>, shelf: &mut H, name: &str) -> Result<u64, MapError>
     ensures checked { IsChecked a.now (H.holds shelf.old name.now) (H.faults shelf.old) (H.faults shelf.new) result }
     ensures keeps { (n : List ℕ) → H.holds shelf.new n ≡ H.holds shelf.old n }
     ensures later { H.faults shelf.old ≤ H.faults shelf.new }
@@ -138,4 +129,17 @@ pub fn check_map<H: Shelf>(
         kept = left_behind(used, there);
     }
     Err(refused(&progress, Fault::Misspelled))
+}
+
+/// Checks a map: the first three lines name the run, each further line comes after the one before, and each pair of a bit and a cycle
+/// that a line names is un-ACE by its rule, and so harmless. On `Ok` it answers how many pairs the lines name. It reads at most 4,096 bytes
+/// at a time, judges whole lines before it reads on, ends on every file and takes no memory.
+pub fn check_map<H: Shelf>(a: &Analysis<'_>, shelf: &mut H, name: &str) -> Result<u64, MapError>
+    ensures checked { IsChecked a.now (H.holds shelf.old name.now) (H.faults shelf.old) (H.faults shelf.new) result }
+    ensures harmless { OnOk result (IfSome (H.holds shelf.old name.now) (IsHarmless a.now)) }
+    ensures keeps { (n : List ℕ) → H.holds shelf.new n ≡ H.holds shelf.old n }
+    ensures later { H.faults shelf.old ≤ H.faults shelf.new }
+{
+    a.is_harmless();
+    read_map(a, shelf, name)
 }

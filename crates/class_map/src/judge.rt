@@ -1,5 +1,6 @@
 // One more line of a file, judged.
-ghost use Rattle.std.specs.Prelude.{◌≡◌, ◌≤◌, ◌+◌, Err, IfErr, IfOk, IfSome, IsTrue, MatchOption, None, Ok, OnErr, OnOk, Some, false, true, if◌then◌else◌, length, option_map};
+ghost use Rattle.std.specs.Prelude.{◌≡◌, ◌≤◌, ◌+◌, Err, IfErr, IfOk, IfSome, IsTrue, MatchOption};
+ghost use Rattle.std.specs.Prelude.{None, Ok, OnErr, OnOk, Some, false, true, if◌then◌else◌, length, option_map};
 ghost use Rattle.bit_field.specs.Shapes.{IsPlaceIn, IsShape};
 ghost use Rattle.class_map.specs.Bounds.{IsBounded, IsFurther};
 ghost use Rattle.class_map.specs.Checks.{HasFault, IsWrong, Passes};
@@ -131,11 +132,7 @@ fn meant(
 
 // What the next line says, or its first fault but for that of its classes.
 #[tactic(auto, unfolding(crate::specs::Faults::says))]
-fn says(
-    recorded: &Recorded<'_>,
-    progress: &Progress,
-    text: &[u8],
-) -> Result<Option<MapLine>, Fault>
+fn says(recorded: &Recorded<'_>, progress: &Progress, text: &[u8]) -> Result<Option<MapLine>, Fault>
     ensures is { result ≡ spec.says recorded.now progress.now text.now }
     ensures fit { IfOk result (IsFit recorded.now progress.now) }
     ensures short { OnOk result (length text.now ≤ LONGEST_LINE) }

@@ -25,7 +25,10 @@ pub(crate) fn order_of(structure: Structure) -> u8
 pub(crate) fn comes_after(earlier: &MapLine, line: &MapLine) -> bool
     ensures { result ≡ lines.comes_after earlier.now line.now }
 {
-    let (a, b) = (order_of(earlier.place.structure), order_of(line.place.structure));
+    let (a, b) = (
+        order_of(earlier.place.structure),
+        order_of(line.place.structure),
+    );
     if a != b {
         return a < b;
     }

@@ -1,5 +1,6 @@
 // The lines of the map of a run, one after the other.
-ghost use Rattle.std.specs.Prelude.{◌≡◌, ◌<◌, ◌≤◌, ◌+◌, ◌==◌, ◌↔◌, ℕ, IfSome, IsTrue, Some, if◌then◌else◌, option_map};
+ghost use Rattle.std.specs.Prelude.{◌≡◌, ◌<◌, ◌≤◌, ◌+◌, ◌==◌, ◌↔◌};
+ghost use Rattle.std.specs.Prelude.{ℕ, IfSome, IsTrue, Some, if◌then◌else◌, option_map};
 ghost use Rattle.bit_field.specs.Shapes.{IsPlaceIn, bits_in};
 ghost use Rattle.ace_class.specs.Counts.{place_of, structures};
 ghost use Rattle.ace_class.specs.declared.class.Class.TheVariants.{Ace};
@@ -125,11 +126,7 @@ fn line_in(a: &Analysis<'_>, structure: Structure, before: Option<&MapLine>) -> 
 }
 
 // The first line in these structures that follows the line before.
-fn line_among(
-    a: &Analysis<'_>,
-    among: &[Structure],
-    before: Option<&MapLine>,
-) -> Option<MapLine>
+fn line_among(a: &Analysis<'_>, among: &[Structure], before: Option<&MapLine>) -> Option<MapLine>
     requires all { among.now ≡ structures }
     requires before { IfSome before (λ line. IsMapLine a.now line.now) }
     ensures { IsNext a.now (option_map (λ line. line.now) before.entry) result }

@@ -148,7 +148,10 @@ pub(crate) fn number_behind(front: &[u8], text: &[u8]) -> Option<u32>
 fn structure_in(among: &[Structure], name: &[u8]) -> Option<Structure>
     ensures { result ≡ find (λ s. bytes_eq (name_of s) name.now) among.now }
 {
-    among.iter().copied().find(|s| structure_name(*s).as_bytes() == name)
+    among
+        .iter()
+        .copied()
+        .find(|s| structure_name(*s).as_bytes() == name)
 }
 
 /// The structure of a name, if there is one.

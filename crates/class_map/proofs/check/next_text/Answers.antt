@@ -1,6 +1,5 @@
-use Rattle.std.proofs.Common.{List, ℕ, ◌-◌, ◌<◌, ◌≡◌, ◌∙◌, ap, drop, length, subst, take, sym, arith}
+use Rattle.std.proofs.Common.{drop}
 use Rattle.std.proofs.lemmas.List.{take_rest}
-use Rattle.class_map.specs.Pieces.{HasNoFeed, IsNextText}
 use Rattle.class_map.proofs.FileLines.{all_free, next_text}
 use Rattle.class_map.proofs.check.next_text.Goals as goal
 

@@ -1,4 +1,4 @@
-use Rattle.std.proofs.Common.{◌≤◌, ◌<◌, ◌^◌, Option, None, subst, arith}
+use Rattle.std.proofs.Common.{◌<◌, ◌^◌, Option, None, subst, arith}
 use Rattle.bit_field.specs.Shapes.{IsShape}
 use Rattle.run_record.specs.Run.{RecordedRun}
 use Rattle.class_map.specs.Maps.{IsNext, IsNextLine}

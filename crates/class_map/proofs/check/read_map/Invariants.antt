@@ -3,7 +3,7 @@ use Rattle.class_map.specs.Bounds.{IsBounded}
 use Rattle.class_map.specs.Pieces.{HasNoFeed, IsKept}
 use Rattle.class_map.specs.declared.judge.TheConstants.{LONGEST_LINE}
 use Rattle.class_map.proofs.Rounds.{IsRead}
-use Rattle.class_map.proofs.check.check_map.Given as goal
+use Rattle.class_map.proofs.check.read_map.Given as goal
 
 abbrev pub invariant-loop-kept : goal.invariant-loop-kept
 invariant-loop-kept g l = record {
