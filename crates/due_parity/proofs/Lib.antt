@@ -6,7 +6,6 @@
 mod DataCycles
 mod DataMoves
 mod Decided
-mod Grown
 mod Guards
 mod OneClass
 pub mod OneDue
