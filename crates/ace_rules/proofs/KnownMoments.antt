@@ -29,7 +29,7 @@ module _ (story : Story) (table : Needs) (notes : List Note) (words : List ℕ) 
   within : (t : ℕ) → t < r.cycles → t < story.r.cycles
   within t below = subst (λ (r : RecordedRun). t < r.cycles) (sym is) below
 
-  quiet-by : (t : ℕ) → t < r.cycles → (nat_le quiet t ≡ true) ↔ IsQuiet (moment story t)
+  pub quiet-by : (t : ℕ) → t < r.cycles → (nat_le quiet t ≡ true) ↔ IsQuiet (moment story t)
   quiet-by t below =
       let silent = kept.noted.silent t (within t below) in
       (λ h. silent.0 (grind (arith, nat_tests)), λ h. let l = silent.1 h in grind (arith, nat_tests))

@@ -3,6 +3,8 @@ mod Clocks
 mod OnPath
 mod Judged
 mod Noted
+mod SameMasks
+mod KeptMasks
 mod Walked
 pub mod Told
 mod AccessedAgain
@@ -28,3 +30,11 @@ mod FetchedPlaces
 mod FetchedMasks
 mod FetchedClasses
 mod KnownMoments
+pub mod OneClass
+pub mod Sums
+pub mod Tallies
+mod Popcounts
+mod FirstMasks
+mod NextStays
+mod Staying
+mod Intervals

@@ -82,7 +82,7 @@ module _ (a : Moment) (k : ℕ) where
       λ rule. data-earlier 14 (λ l h. let t = is-e.1 h in absurd cc) (λ l h. let t = is-d.1 h in absurd cc) (λ l h. let t = is-u.1 h in absurd cc)
       rule (number-below rule)
 
-get-some : (xs : List Note) (i : ℕ) → i < length xs → (x : Note) × (slice_get xs i ≡ Some x)
+pub get-some : (xs : List Note) (i : ℕ) → i < length xs → (x : Note) × (slice_get xs i ≡ Some x)
 get-some [] i l = absurd (omega (arith, l))
 get-some (x ∷ xs) zero l = (x, refl)
 get-some (x ∷ xs) (suc i) l = get-some xs i (omega (arith, l))

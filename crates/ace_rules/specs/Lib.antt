@@ -1,4 +1,5 @@
 pub mod Notes
+pub mod Situations
 pub mod Walks
 pub mod FirstRules
 pub mod PipelineTests
@@ -7,3 +8,7 @@ pub mod Asked
 pub mod Lines
 pub mod LineData
 pub mod Analyses
+pub mod Sums
+pub mod Tallies
+pub mod RuleMasks
+pub mod Stays

@@ -14,14 +14,13 @@ use Rattle.inst_buf.specs.Buffer.{entries as waiting_in, packed}
 use Rattle.inst_buf.specs.Entry.{Entry as Fetched}
 use Rattle.inst_buf.specs.declared.buffer.TheConstants.{SLOTS}
 use Rattle.cyc_machine.specs.Cycle.{action_in_m}
-use Rattle.cyc_machine.specs.Pipeline.{register}
 use Rattle.cyc_machine.specs.State.{State}
 use Rattle.need_pass.specs.Tables.{Needs}
-use Rattle.eval_mask.specs.LatchMasks.{IsLatchMask, Latches}
 use Rattle.eval_mask.specs.WordMasks.{IsWordMask}
 use Rattle.run_record.specs.Run.{RecordedRun}
 use Rattle.rv_isa.specs.Runs.{ProgramTrace}
 use Rattle.ace_rules.specs.Notes.{Story}
+use Rattle.ace_rules.specs.Situations.{AreMasks, situation_of}
 use Rattle.ace_rules.specs.declared.note.Note.{Note}
 
 -- whether an instruction is at this word address
@@ -49,13 +48,6 @@ count_on_path run i (pc ∷ addresses) = if is_at (slice_get run i) pc then coun
 abbrev pub on_path_in : State → List Retired → ℕ → ℕ
 on_path_in s run x = count_on_path run x (path_addresses s.d (waiting_in s.buffer))
 
--- the latches of a state, and what its register file still holds in the register that MEM/WB writes
-abbrev pub latches_of : State → Latches
-latches_of s = record { w = s.w; m = s.m; d = s.d }
-
-abbrev pub old_result : State → ℕ
-old_result s = register s.registers s.w.rd
-
 -- The note of a state of the machine in which x instructions have left EX, told by the run's instructions and by the instruction set's
 -- state once MEM/WB is completed.
 pub record IsNoteOf (s : State) (arch : ArchState) (run : List Retired) (table : Needs) (x : ℕ) (note : Note) : Type 0 where
@@ -73,7 +65,7 @@ pub record IsNoteOf (s : State) (arch : ArchState) (run : List Retired) (table :
   pub next : note.next ≡ option_map (λ entry. entry.pc / 4) (slice_get run (x + on_path_in s run x))
   pub missed : note.missed ≡ slice_get (path_addresses s.d (waiting_in s.buffer)) (on_path_in s run x)
   pub stores : note.stores ≡ s.stores
-  pub masks : IsLatchMask table arch (latches_of s) (old_result s) s.npc x note.masks
+  pub masks : AreMasks table arch (situation_of s x) note.masks
 
 -- the mask of the word at a state's address, as instruction i
 pub record IsMaskAt (table : Needs) (i : ℕ) (arch : ArchState) (mask : ℕ) : Type 0 where

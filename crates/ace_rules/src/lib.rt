@@ -1,11 +1,12 @@
 // The class of each bit of the machine in each cycle of a recorded run.
 //
 // - note: what is kept of a cycle;
-// - walk: the notes of a run, by a machine that goes as the recorded one went; path: what is on path; words: masks of instruction words;
+// - walk: the notes of a run, by a machine that goes as the recorded one went; path: what is on path; words: masks of
+//   instruction words; situation: masks of latches, taken over where nothing has changed;
 // - analysis: a recorded run with all that is kept of it;
 // - first_rule: the class of a bit by the first of the rules that holds;
 // - timing, registers, next, latches, fetched: the classes of the pipeline's bits;
-// - classes: the class of any bit;
+// - classes: the class of any bit; until, stays: how long a bit keeps its class;
 // - later: what instructions that haven't left the memory stage need and access;
 // - pending: the classes of the bits of the store buffer;
 // - lines, line_data: the classes of the bits of line slots.
@@ -24,7 +25,11 @@ mod note;
 mod path;
 mod pending;
 mod registers;
+mod situation;
+mod stays;
+mod tally;
 mod timing;
+mod until;
 mod walk;
 mod words;
 

@@ -92,7 +92,7 @@ fn is_unread(
 }
 
 /// What next concerns a byte of a slot from a cycle on.
-fn next_at(life: &Life, shape: &Shape, slot: u32, offset: u32, cycle: u32) -> Next
+pub(crate) fn next_at(life: &Life, shape: &Shape, slot: u32, offset: u32, cycle: u32) -> Next
     requires shape { IsShape shape.now }
     requires life { life.now.shape ≡ shape.now }
     requires slot { slot < slot_count shape.now }

@@ -4,19 +4,21 @@ ghost use Rattle.std.specs.Prelude.{length, nat_lt, slice_get, option_map, if◌
 ghost use Rattle.rv_table.specs.Effects.{written_register};
 ghost use Rattle.pipe_latch.specs.LatchedActions.{action_of, kind_of};
 ghost use Rattle.pipe_latch.specs.declared.kinds.ExMemKind.TheVariants.{Trap};
-ghost use Rattle.eval_mask.specs.LatchMasks.{IsLatchMask};
+ghost use Rattle.rv_isa.specs.Architecture.{ArchState};
+ghost use Rattle.need_pass.specs.Tables.{Needs};
 ghost use Rattle.rv_table.specs.Actions as rv;
 ghost use Rattle.ace_law.specs.Moments.{IsTold};
 ghost use Rattle.ace_rules.specs.Notes.{AreNotes};
-ghost use Rattle.ace_rules.specs.Walks as walks;
-ghost use Rattle.ace_rules.specs.Walks.{IsInOrder, IsLastClock, IsNoteOf, latches_of, story_of};
+ghost use Rattle.ace_rules.specs.Situations.{AreMasks, situation_of};
+ghost use Rattle.ace_rules.specs.Walks.{IsInOrder, IsLastClock, IsNoteOf, story_of};
 
 use crate::note::Note;
 use crate::path::{count_on_path, path_address};
+use crate::situation::{kept, masked};
 use crate::words::leave_if;
 use avf_base::{OutOfMemory, Steps};
 use cyc_machine::{CycleReport, Machine};
-use eval_mask::{LatchMask, latch_bits};
+use eval_mask::LatchMask;
 use need_pass::NeedTable;
 use pipe_latch::{ExMem, ExMemKind};
 use run_record::Recorded;
@@ -51,34 +53,6 @@ fn executed_register(m: &ExMem) -> u8
     }
 }
 
-#[tactic(auto, unfolding(cyc_machine::specs::Pipeline::register))]
-/// What the register file holds in the register that MEM/WB writes, 0 for register 0.
-fn old_result(machine: &Machine<'_>) -> u32
-    ensures { result ≡ walks.old_result machine.now }
-{
-    match machine.mem_wb().rd {
-        0 => 0,
-        rd => machine.reg(rd),
-    }
-}
-
-/// The masks of the latches, where the instructions before instruction `x` have left EX.
-fn latch_masks(machine: &Machine<'_>, arch: &Arch<'_>, needs: &NeedTable, x: u32) -> LatchMask
-    requires { x ≤ needs.now.count }
-    ensures { IsLatchMask needs.now arch.now (latches_of machine.now) (walks.old_result machine.now) machine.now.npc x result }
-{
-    latch_bits(
-        machine.mem_wb(),
-        old_result(machine),
-        machine.ex_mem(),
-        machine.id_ex(),
-        machine.npc(),
-        arch,
-        needs,
-        x,
-    )
-}
-
 /// The word address of instruction `i`, none after the last.
 fn address_of(trace: &Trace, i: u32) -> Option<u32>
     ensures { result ≡ option_map (λ entry. entry.pc / 4) (slice_get trace.now.entries i) }
@@ -90,12 +64,11 @@ fn address_of(trace: &Trace, i: u32) -> Option<u32>
     }
 }
 
-/// The note of a machine, of which `x` instructions have left EX; `arch` is the instruction set's state once MEM/WB is completed.
-fn note_of(machine: &Machine<'_>, arch: &Arch<'_>, trace: &Trace, needs: &NeedTable, x: u32) -> Note
+/// The note of a machine, of which `x` instructions have left EX, and of the masks of its latches.
+fn note_of(machine: &Machine<'_>, trace: &Trace, x: u32, masks: LatchMask) -> Note
     requires order { IsInOrder machine.now.buffer }
     requires room { x + 8 < 2 ^ 32 }
-    requires within { x ≤ needs.now.count }
-    ensures { IsNoteOf machine.now arch.now trace.now.entries needs.now x result }
+    ensures { (table : Needs) (arch : ArchState) → AreMasks table arch (situation_of machine.now x) masks → IsNoteOf machine.now arch trace.now.entries table x result }
 {
     let d = machine.id_ex();
     let buffer = machine.inst_buf();
@@ -115,7 +88,7 @@ fn note_of(machine: &Machine<'_>, arch: &Arch<'_>, trace: &Trace, needs: &NeedTa
         next: address_of(trace, x + on_path),
         missed: path_address(d, buffer, on_path),
         stores: *machine.store_buf(),
-        masks: latch_masks(machine, arch, needs, x),
+        masks,
     }
 }
 
@@ -177,12 +150,15 @@ pub fn note_run<L: Ledger, M: Ledger>(
     let mut words = Vec::new(alloc);
     let mut quiet = 0;
     let mut executed = 0;
+    let mut kept_masks = None;
     for t in 0..recorded.cycles() {
-        cycles.push(note_of(&machine, &arch, trace, needs, executed))?;
+        let now = masked(&machine, executed, &kept_masks, &arch, needs);
+        cycles.push(note_of(&machine, trace, executed, now.masks))?;
         quiet = quiet_after(quiet, t, executed, last);
         let report = machine.step(steps);
         executed = count_after(executed, &report);
         leave_if(report.retired, &mut arch, trace, needs, &mut words, applies)?;
+        kept_masks = kept(report.retired, &now);
     }
     Ok(Notes {
         cycles,

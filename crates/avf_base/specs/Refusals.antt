@@ -2,7 +2,7 @@
 use Rattle.std.specs.Prelude.{ℕ, List, [], ◌∷◌, codes, decimal}
 use Rattle.std.specs.List.{concat}
 use Rattle.avf_base.specs.declared.refusal.Refusal.{Refusal}
-use Rattle.avf_base.specs.declared.refusal.Refusal.TheVariants.{Usage, ReadFault, BadImage, NoEnd, NoSuchBit, WriteFault, OutOfMemory, BadSource}
+use Rattle.avf_base.specs.declared.refusal.Refusal.TheVariants.{Usage, ReadFault, BadImage, NoEnd, NoSuchBit, WriteFault, OutOfMemory, BadSource, BadMap}
 
 -- the program's status, 0 being no refusal
 abbrev pub status_of : Refusal → ℕ
@@ -14,6 +14,7 @@ status_of NoSuchBit = 6
 status_of WriteFault = 7
 status_of OutOfMemory = 8
 status_of (BadSource line cause) = 9
+status_of (BadMap line cause) = 10
 
 -- the line that tells it on the standard error
 abbrev pub line_of : Refusal → List ℕ
@@ -25,6 +26,7 @@ line_of NoSuchBit = codes "avf: no such bit\n"
 line_of WriteFault = codes "avf: write fault\n"
 line_of OutOfMemory = codes "avf: out of memory\n"
 line_of (BadSource line cause) = concat (codes "avf: bad source " ∷ decimal line ∷ codes " " ∷ decimal cause ∷ codes "\n" ∷ [])
+line_of (BadMap line cause) = concat (codes "avf: bad map " ∷ decimal line ∷ codes " " ∷ decimal cause ∷ codes "\n" ∷ [])
 
 -- what stands behind a refusal
 pub data Cause : Type 0 where
@@ -32,7 +34,7 @@ pub data Cause : Type 0 where
   ByWords : Cause
   -- a fault of the shelf
   ByShelf : Cause
-  -- the contents of the file
+  -- the contents of the files
   ByContents : Cause
   -- a fault of the standard output
   ByOut : Cause
@@ -48,3 +50,4 @@ cause_of NoSuchBit = ByContents
 cause_of WriteFault = ByOut
 cause_of OutOfMemory = Free
 cause_of (BadSource line cause) = ByContents
+cause_of (BadMap line cause) = ByContents

@@ -26,10 +26,13 @@ pub enum Refusal {
     /// The source is malformed: the line of its first fault, from 1 on, and the number, 1 to 7, of what is wrong there. Line 0,
     /// always with 7, is the whole source: it is above 1 MiB, its text part is empty, or a part is too large.
     BadSource { line: u32, cause: u8 },
+    /// The class map is malformed, or says what isn't so: the line of its first fault, from 1 on, and the number, 1 to 5, of what is
+    /// wrong there.
+    BadMap { line: u64, cause: u8 },
 }
 
 impl Refusal {
-    /// The status, 2 to 9, that the program ends with.
+    /// The status, 2 to 10, that the program ends with.
     pub fn status(&self) -> u8
         ensures { result ≡ status_of self.now }
     {
@@ -42,6 +45,7 @@ impl Refusal {
             Refusal::WriteFault => 7,
             Refusal::OutOfMemory => 8,
             Refusal::BadSource { .. } => 9,
+            Refusal::BadMap { .. } => 10,
         }
     }
 }

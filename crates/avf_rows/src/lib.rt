@@ -4,9 +4,13 @@
 #[cfg(test)]
 mod fault_rows;
 #[cfg(test)]
+mod flip_rows;
+#[cfg(test)]
 mod images;
 #[cfg(test)]
 mod query_rows;
+#[cfg(test)]
+mod report_rows;
 #[cfg(test)]
 mod rows;
 #[cfg(test)]

@@ -133,20 +133,20 @@ fn run_line(alloc: Global, shape: &str, cycles: u32) -> Result<String, AllocErro
 }
 
 // Each word but the first two loads or stores, or is a NOP; a7 = 93 and ECALL end it.
-const CONFLICT: [u32; 7] = [
+pub const CONFLICT: [u32; 7] = [
     0x00080437, 0x00042283, 0x20042303, 0x40042383, 0x00042503, 0x05D00893, 0x00000073,
 ];
 
-const BESIDE: [u32; 9] = [
+pub const BESIDE: [u32; 9] = [
     0x00080437, 0x00042283, 0x00540423, 0x00000013, 0x20042303, 0x40042383, 0x00042503, 0x05D00893,
     0x00000073,
 ];
 
-const TAGS: [u32; 7] = [
+pub const TAGS: [u32; 7] = [
     0x00080437, 0x00042283, 0x40042303, 0x60042383, 0x20042503, 0x05D00893, 0x00000073,
 ];
 
-const PENDING: [u32; 5] = [0x00080437, 0x00042283, 0x20040023, 0x05D00893, 0x00000073];
+pub const PENDING: [u32; 5] = [0x00080437, 0x00042283, 0x20040023, 0x05D00893, 0x00000073];
 
 // Rows of flat images by their exact number of cycles.
 fn cycles<R: Abort + AllocGlobal, L: Ledger, M: Ledger>(

@@ -3,8 +3,9 @@ use Rattle.std.proofs.Common.{◌≡◌, ◌≢◌, ℕ, List, Option, None, Som
 use Rattle.avf_base.specs.Moves.{Grows}
 use Rattle.avf_base.specs.Refusals.{status_of}
 use Rattle.avf_base.specs.declared.refusal.Refusal.{Refusal}
-use Rattle.avf_base.specs.declared.refusal.Refusal.TheVariants.{Usage, ReadFault, BadImage, NoEnd, NoSuchBit, WriteFault, OutOfMemory, BadSource}
-use Rattle.avf_tool.specs.Answers.{Answer, Text, Refused, answer}
+use Rattle.avf_base.specs.declared.refusal.Refusal.TheVariants.{Usage, ReadFault, BadImage, NoEnd, NoSuchBit, WriteFault, OutOfMemory, BadSource, BadMap}
+use Rattle.avf_tool.specs.Answers.{answer}
+use Rattle.avf_tool.specs.Due.{Answer, Text, Refused}
 use Rattle.avf_tool.specs.Ends.{Comes, Serves, Says, Ends, ByStatus, Due, Faults, Use, status_due}
 use Rattle.avf_tool.specs.Words.{Job, told_to}
 use Rattle.avf_tool.proofs.OneAnswer.{one_answer}
@@ -123,6 +124,9 @@ ended (Some job) holds shelf out err (Err (BadImage k)) h status s =
 ended (Some job) holds shelf out err (Err (BadSource line cause)) h status s =
     subst (ByStatus (Some job) holds shelf out err) (sym s.0)
     (refused job holds shelf out err (BadSource line cause) (λ e. omega (arith, e)) (λ e. omega (arith, e)) (λ e. omega (arith, e)) (λ e. omega (arith, e)) h.0 h.1)
+ended (Some job) holds shelf out err (Err (BadMap line cause)) h status s =
+    subst (ByStatus (Some job) holds shelf out err) (sym s.0)
+    (refused job holds shelf out err (BadMap line cause) (λ e. omega (arith, e)) (λ e. omega (arith, e)) (λ e. omega (arith, e)) (λ e. omega (arith, e)) h.0 h.1)
 ended (Some job) holds shelf out err (Err NoEnd) h status s =
     subst (ByStatus (Some job) holds shelf out err) (sym s.0)
     (refused job holds shelf out err NoEnd (λ e. omega (arith, e)) (λ e. omega (arith, e)) (λ e. omega (arith, e)) (λ e. omega (arith, e)) h.0 h.1)

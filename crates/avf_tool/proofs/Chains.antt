@@ -12,7 +12,8 @@ use Rattle.elf_load.specs.Meaning.{image_of}
 use Rattle.elf_load.specs.Refusal.{first_refusal}
 use Rattle.run_record.specs.Run.{RecordedRun}
 use Rattle.run_record.specs.Within.{record_within}
-use Rattle.avf_tool.specs.Answers.{Answer, Text, Refused, on_image, on_run, ram_size}
+use Rattle.avf_tool.specs.Answers.{on_image, on_run, ram_size}
+use Rattle.avf_tool.specs.Due.{Answer, Text, Refused}
 use Rattle.avf_tool.specs.Stages.{IsText, WorkedOut}
 use Rattle.avf_tool.specs.declared.stages.TheConstants.{IMAGE_LIMIT, TOO_LONG}
 

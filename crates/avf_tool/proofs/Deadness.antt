@@ -3,10 +3,10 @@ use Rattle.std.proofs.Common.{◌≡◌, ℕ, Result, Ok, Err, sym, ap, ◌∙�
 use Rattle.std.specs.Prelude.{Vec}
 use Rattle.std.specs.declared.alloc.Global.{Global}
 use Rattle.avf_base.specs.declared.refusal.Refusal.{Refusal}
-use Rattle.avf_base.specs.declared.refusal.Refusal.TheVariants.{Usage, ReadFault, BadImage, NoEnd, NoSuchBit, WriteFault, OutOfMemory, BadSource}
+use Rattle.avf_base.specs.declared.refusal.Refusal.TheVariants.{Usage, ReadFault, BadImage, NoEnd, NoSuchBit, WriteFault, OutOfMemory, BadSource, BadMap}
 use Rattle.rv_isa.specs.Runs.{ProgramTrace}
 use Rattle.run_record.specs.Run.{RecordedRun}
-use Rattle.avf_tool.specs.Answers.{Text, only}
+use Rattle.avf_tool.specs.Due.{Text, only}
 use Rattle.avf_tool.specs.Programs.{instructions_of}
 use Rattle.avf_tool.specs.Stages.{IsDeadText, IsText}
 use Rattle.avf_tool.specs.Texts.{deadness_text}
@@ -22,3 +22,4 @@ dead_told run trace (Err NoEnd) e h = absurd h
 dead_told run trace (Err NoSuchBit) e h = absurd h
 dead_told run trace (Err WriteFault) e h = absurd h
 dead_told run trace (Err (BadSource line cause)) e h = absurd h
+dead_told run trace (Err (BadMap line cause)) e h = absurd h

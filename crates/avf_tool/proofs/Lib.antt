@@ -1,11 +1,16 @@
 mod ByStatus
 mod Chains
 mod Deadness
+mod Flips
+mod Generated
+mod HarmlessBits
 mod Numerals
 mod Programs
 mod Rams
+mod CountsTold
 mod Retold
 mod Runs
+mod SomeNeeds
 mod Sources
 mod Traces
 mod Serving
@@ -13,3 +18,4 @@ mod StructureNames
 mod OneAnswer
 mod Queries
 mod ShortWords
+mod Work

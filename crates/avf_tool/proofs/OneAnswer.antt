@@ -1,39 +1,24 @@
 -- One answer is due to a command.
-use Rattle.std.proofs.Common.{◌≡◌, ℕ, List, Option, None, Some, refl, sym, ap, ◌∙◌, inl, inr}
-use Rattle.std.proofs.lemmas.Bool.{cases_order}
+use Rattle.std.proofs.Common.{◌≡◌, ℕ, List, Option, None, Some, sym, ap, ◌∙◌}
 use Rattle.bit_field.specs.declared.places.Place.{Place}
-use Rattle.bit_field.specs.declared.places.Structure.{Structure}
 use Rattle.elf_load.specs.Meaning.{image_of}
 use Rattle.run_record.specs.Run.{RecordedRun}
 use Rattle.run_record.specs.Within.{record_within}
-use Rattle.ace_class.specs.Classes.{number_of}
-use Rattle.ace_class.specs.declared.class.Class.{Class}
-use Rattle.ace_class.specs.declared.class.Class.TheVariants.{Ace, UnAce}
-use Rattle.ace_class.proofs.Numbers.{same_rule}
-use Rattle.ace_law.specs.Classes.{IsClass}
-use Rattle.ace_law.specs.Moments.{Moment}
-use Rattle.avf_tool.specs.Answers.{Answer, Text, answer, class_due, in_run, on_run, only, query_due, ram_size, reason_in, task_answer}
-use Rattle.avf_tool.specs.Answers.{unless_endless, unless_nowhere, unless_refused}
-use Rattle.avf_tool.specs.Texts.{class_text}
-use Rattle.avf_tool.specs.Words.{Job, OnImage, Assemble}
-use Rattle.avf_tool.specs.declared.command.BitInCycle.{BitInCycle}
+use Rattle.ace_class.specs.Counts.{Counted}
+use Rattle.ace_count.proofs.OneCount.{counts_unique}
+use Rattle.ace_rules.proofs.OneClass.{one_class}
+use Rattle.avf_report.specs.Tables.{report_csv_of}
+use Rattle.avf_report.specs.Texts.{report_text_of}
+use Rattle.avf_tool.specs.Answers.{answer, image_answer, on_run, ram_size, reason_in, task_answer}
+use Rattle.avf_tool.specs.BitAnswers.{class_due, place_in, unless_nowhere, verdict_due}
+use Rattle.avf_tool.specs.Due.{Answer, Text, only}
+use Rattle.avf_tool.specs.Answers.{unless_endless, unless_refused}
+use Rattle.avf_tool.specs.ReportAnswers.{counts_due, story_of}
+use Rattle.avf_tool.specs.Texts.{class_text, verdict_text}
+use Rattle.avf_tool.proofs.Flips.{same_verdict}
+use Rattle.avf_tool.specs.Words.{ImageJob, Job, OnImage, Bench, Assemble, bench_run}
 use Rattle.avf_tool.specs.declared.command.Task.{Task}
-use Rattle.avf_tool.specs.declared.command.Task.TheVariants.{Run, Dead, Query}
-
--- ---- a bit has one class in a cycle
-
-one_class : (a : Moment) (p : Place) (c d : Class) → IsClass c a p → IsClass d a p → c ≡ d
-one_class a p Ace Ace h k = refl
-one_class a p Ace (UnAce rule) h k = absurd (h rule k.0)
-one_class a p (UnAce rule) Ace h k = absurd (k rule h.0)
-one_class a p (UnAce rule) (UnAce other) h k =
-    elim (cases_order (number_of rule) (number_of other)) [
-      | inl same ↦ ap UnAce (same_rule rule other same)
-      | inr (inl before) ↦ absurd (k.1 rule before h.0)
-      | inr (inr behind) ↦ absurd (h.1 other behind k.0)
-    ]
-
--- ---- one answer
+use Rattle.avf_tool.specs.declared.command.Task.TheVariants.{Run, Dead, Report, Csv, Query, Flip}
 
 -- at most one answer is due
 HasOne : (Answer → Type 0) → Type 0
@@ -43,23 +28,31 @@ one_only : (due : Answer) → HasOne (only due)
 unfolding HasOne
 one_only due a b h k = sym h ∙ k
 
-one_class_due : (run : RecordedRun) (place : Place) (cycle : ℕ) → HasOne (class_due run place cycle)
+one_class_due : (run : RecordedRun) (cycle : ℕ) (place : Place) → HasOne (class_due run cycle place)
 unfolding HasOne
-one_class_due run place cycle a b h k =
+one_class_due run cycle place a b h k =
     sym h.2 ∙ ap (λ c. Text (class_text c)) (one_class _ place h.0 k.0 h.1.is k.1.is) ∙ k.2
 
-one_place : (run : RecordedRun) (cycle : ℕ) (place : Option Place) → HasOne (unless_nowhere place (λ p. class_due run p cycle))
-one_place run cycle (Some place) = one_class_due run place cycle
-one_place run cycle None = one_only _
+one_verdict_due : (run : RecordedRun) (cycle : ℕ) (place : Place) → HasOne (verdict_due run cycle place)
+unfolding HasOne
+one_verdict_due run cycle place a b h k =
+    sym h.2 ∙ ap (λ v. Text (verdict_text v)) (same_verdict run cycle _ h.0 k.0 h.1.is k.1.is) ∙ k.2
 
-one_query : (run : RecordedRun) (asked : BitInCycle) (s : Option Structure) → HasOne (query_due run asked s)
-one_query run asked (Some s) = one_place run asked.cycle (in_run run asked.cycle (record { structure = s; bit = asked.bit }))
-one_query run asked None = one_only _
+one_place : (place : Option Place) (next : Place → Answer → Type 0) → ((p : Place) → HasOne (next p)) → HasOne (unless_nowhere place next)
+one_place (Some place) next one = one place
+one_place None next one = one_only _
+
+one_counts : (run : RecordedRun) (text : Counted → List ℕ) → HasOne (counts_due run text)
+unfolding HasOne
+one_counts run text a b h k = sym h.2 ∙ ap (λ c. Text (text c)) (counts_unique (story_of run) h.0 k.0 h.1.are k.1.are) ∙ k.2
 
 one_task : (task : Task) (run : RecordedRun) → HasOne (task_answer task run)
 one_task Run run = one_only _
 one_task Dead run = one_only _
-one_task (Query asked) run = one_query run asked asked.structure
+one_task Report run = one_counts run (report_text_of run)
+one_task Csv run = one_counts run report_csv_of
+one_task (Query asked) run = one_place (place_in run asked) (class_due run asked.cycle) (one_class_due run asked.cycle)
+one_task (Flip asked) run = one_place (place_in run asked) (verdict_due run asked.cycle) (one_verdict_due run asked.cycle)
 
 one_run : (task : Task) (run : Option RecordedRun) → HasOne (unless_endless run (task_answer task))
 one_run task (Some run) = one_task task run
@@ -69,10 +62,14 @@ one_refusal : (bad : Option ℕ) (next : Answer → Type 0) → HasOne next → 
 one_refusal (Some k) next h = one_only _
 one_refusal None next h = h
 
-one_due : (job : Job) (contents : List ℕ) → HasOne (answer job contents)
-one_due (OnImage job) contents =
+one_image : (job : ImageJob) (contents : List ℕ) → HasOne (image_answer job contents)
+one_image job contents =
     one_refusal (reason_in job.shape contents) (on_run job.shape job.budget (task_answer job.task) (image_of contents (ram_size job.shape)))
     (one_run job.task (record_within (image_of contents (ram_size job.shape)) job.shape job.budget))
+
+one_due : (job : Job) (contents : List ℕ) → HasOne (answer job contents)
+one_due (OnImage job) contents = one_image job contents
+one_due (Bench job) contents = one_image (bench_run job) contents
 one_due (Assemble name) contents = one_only _
 
 pub one_answer : (job : Job) (contents : List ℕ) (a b : Answer) → answer job contents a → answer job contents b → a ≡ b

@@ -1,7 +1,7 @@
 -- A refusal that is told as want of memory.
 use Rattle.std.proofs.Common.{◌≡◌, ℕ, List, Option, None, Some, rules, sym, subst, inl, inr}
 use Rattle.avf_base.specs.declared.refusal.Refusal.{Refusal}
-use Rattle.avf_base.specs.declared.refusal.Refusal.TheVariants.{Usage, ReadFault, BadImage, NoEnd, NoSuchBit, WriteFault, OutOfMemory, BadSource}
+use Rattle.avf_base.specs.declared.refusal.Refusal.TheVariants.{Usage, ReadFault, BadImage, NoEnd, NoSuchBit, WriteFault, OutOfMemory, BadSource, BadMap}
 use Rattle.avf_tool.specs.Ends.{Comes, MayTell, Faults, Use}
 use Rattle.avf_tool.specs.Words.{Job}
 
@@ -19,6 +19,11 @@ source_told : (asked : Option Job) (holds : List ℕ → Option (List ℕ)) (she
 source_told None holds shelf out line cause h = search rules
 source_told (Some job) holds shelf out line cause h = h.1
 
+map_told : (asked : Option Job) (holds : List ℕ → Option (List ℕ)) (shelf : Faults) (out : Use) (line cause : ℕ)
+    → Comes asked holds shelf out (BadMap line cause) → Comes asked holds shelf out OutOfMemory
+map_told None holds shelf out line cause h = search rules
+map_told (Some job) holds shelf out line cause h = h.1
+
 pub retold : (asked : Option Job) (holds : List ℕ → Option (List ℕ)) (shelf : Faults) (out : Use) (r told : Refusal) → MayTell r told
     → Comes asked holds shelf out r → Comes asked holds shelf out told
 retold asked holds shelf out (BadImage k) told (inl e) h = same asked holds shelf out (BadImage k) told e h
@@ -26,6 +31,9 @@ retold asked holds shelf out (BadImage k) told (inr e) h = same asked holds shel
 retold asked holds shelf out (BadSource line cause) told (inl e) h = same asked holds shelf out (BadSource line cause) told e h
 retold asked holds shelf out (BadSource line cause) told (inr e) h =
     same asked holds shelf out OutOfMemory told e (source_told asked holds shelf out line cause h)
+retold asked holds shelf out (BadMap line cause) told (inl e) h = same asked holds shelf out (BadMap line cause) told e h
+retold asked holds shelf out (BadMap line cause) told (inr e) h =
+    same asked holds shelf out OutOfMemory told e (map_told asked holds shelf out line cause h)
 retold asked holds shelf out Usage told e h = same asked holds shelf out Usage told e h
 retold asked holds shelf out ReadFault told e h = same asked holds shelf out ReadFault told e h
 retold asked holds shelf out NoEnd told e h = same asked holds shelf out NoEnd told e h

@@ -5,7 +5,7 @@ use Rattle.avf_base.specs.Moves.{Grows, GrowsByFront}
 use Rattle.avf_base.specs.Refusals.{Cause, ByWords, ByShelf, ByContents, ByOut, Free, cause_of}
 use Rattle.avf_base.specs.declared.refusal.Refusal.{Refusal}
 use Rattle.avf_base.specs.declared.refusal.Refusal.TheVariants.{WriteFault}
-use Rattle.avf_tool.specs.Answers.{Text}
+use Rattle.avf_tool.specs.Due.{Text}
 use Rattle.avf_tool.specs.Ends.{Comes, ComesBy, Due, Faults, Rise, Serves, TookNothing, Use}
 use Rattle.avf_tool.specs.Stages.{Performed}
 use Rattle.avf_tool.specs.Words.{Job, told_to}

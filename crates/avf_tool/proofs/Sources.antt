@@ -6,7 +6,8 @@ use Rattle.avf_base.specs.declared.refusal.Refusal.TheVariants.{BadSource}
 use Rattle.rv_asm.specs.Sources.{assembled, fault_in, numbered}
 use Rattle.rv_asm.specs.declared.fault.Fault.{Fault}
 use Rattle.rv_asm.specs.declared.layout.TheConstants.{SOURCE_ROOM}
-use Rattle.avf_tool.specs.Answers.{Answer, Text, Refused, source_answer, unless_faulty}
+use Rattle.avf_tool.specs.Answers.{source_answer, unless_faulty}
+use Rattle.avf_tool.specs.Due.{Answer, Text, Refused}
 use Rattle.avf_tool.specs.declared.stages.TheConstants.{BAD_SIZE, WHOLE_SOURCE}
 
 -- a source without a fault

@@ -4,8 +4,9 @@ use Rattle.avf_base.specs.Causes.{Rose}
 use Rattle.avf_base.specs.Moves.{Grows, GrowsByFront}
 use Rattle.avf_base.specs.Refusals.{status_of, line_of, Cause, ByWords, ByShelf, ByContents, ByOut, Free, cause_of}
 use Rattle.avf_base.specs.declared.refusal.Refusal.{Refusal}
-use Rattle.avf_base.specs.declared.refusal.Refusal.TheVariants.{Usage, BadImage, BadSource, OutOfMemory}
-use Rattle.avf_tool.specs.Answers.{Answer, Text, Refused, answer}
+use Rattle.avf_base.specs.declared.refusal.Refusal.TheVariants.{Usage, BadImage, BadSource, BadMap, OutOfMemory}
+use Rattle.avf_tool.specs.Answers.{answer}
+use Rattle.avf_tool.specs.Due.{Answer, Text, Refused}
 use Rattle.avf_tool.specs.Words.{Job, told_to}
 
 -- a count of faults, before a call and after it
@@ -64,6 +65,7 @@ Serves (Some job) holds shelf out (Ok done) = (text : List ℕ) × Due job holds
 abbrev pub MayTell : Refusal → Refusal → Type 0
 MayTell (BadImage k) told = (told ≡ BadImage k) ⊎ (told ≡ OutOfMemory)
 MayTell (BadSource line cause) told = (told ≡ BadSource line cause) ⊎ (told ≡ OutOfMemory)
+MayTell (BadMap line cause) told = (told ≡ BadMap line cause) ⊎ (told ≡ OutOfMemory)
 MayTell refusal told = told ≡ refusal
 
 -- What a call of the tool says on `err`, and its status.

@@ -1,9 +1,13 @@
 pub mod Answers
+pub mod BitAnswers
+pub mod Due
 pub mod Ends
 pub mod Jobs
 pub mod Law
 pub mod Numbers
 pub mod Programs
+pub mod ReportAnswers
 pub mod Stages
 pub mod Texts
 pub mod Words
+pub mod Work

@@ -12,7 +12,8 @@ use Rattle.elf_load.specs.Refusal.{first_refusal}
 use Rattle.rv_isa.specs.Runs.{ProgramTrace, IsTrace}
 use Rattle.run_record.specs.Run.{RecordedRun}
 use Rattle.run_record.specs.Within.{record_within}
-use Rattle.avf_tool.specs.Answers.{Answer, Text, Refused, answer, ram_size}
+use Rattle.avf_tool.specs.Answers.{answer, ram_size}
+use Rattle.avf_tool.specs.Due.{Answer, Text, Refused}
 use Rattle.run_log.specs.Answers.{IsProgram}
 use Rattle.avf_tool.specs.Texts.{deadness_text}
 use Rattle.avf_tool.specs.Words.{Job}
@@ -29,6 +30,12 @@ WasRead ByOut long limit known before now refusal = ⊥
 abbrev pub IsRead : Refusal → ℕ → Option (List ℕ) → ℕ → ℕ → Result (Vec ℕ Global) Refusal → Type 0
 IsRead long limit known before now (Ok v) = (length v.items ≤ limit) × IfSome known (λ contents. v.items ≡ contents)
 IsRead long limit known before now (Err refusal) = WasRead (cause_of refusal) long limit known before now refusal
+
+-- these bytes, or want of memory
+abbrev pub IsMade : List ℕ → Result (Vec ℕ Global) Refusal → Type 0
+IsMade bytes (Ok made) = made.items ≡ bytes
+IsMade bytes (Err OutOfMemory) = ⊤
+IsMade bytes (Err refusal) = ⊥
 
 -- the image that these contents mean, or the first reason to refuse them
 abbrev pub IsLoaded : Shape → List ℕ → Result LoadedImage Refusal → Type 0

@@ -12,6 +12,8 @@ use Rattle.ace_class.specs.declared.class.Class.TheVariants.{Ace, UnAce}
 use Rattle.dead_class.specs.Classes.{classes_of, is_class}
 use Rattle.dead_class.specs.declared.class.DeadClass.{DeadClass}
 use Rattle.dead_class.specs.declared.class.DeadClass.TheVariants.{Needed, Nop, FddReg, TddReg, FddMem, TddMem}
+use Rattle.run_record.specs.declared.verdict.Verdict.{Verdict}
+use Rattle.run_record.specs.declared.verdict.Verdict.TheVariants.{Same, Differs, NoEnd}
 
 -- the bytes that a program put, as pairs of lower-case hexadecimal digits
 abbrev pub output_text : List ℕ → List ℕ
@@ -71,6 +73,12 @@ dead_text counts = concat (needed_lines counts ∷ register_lines counts ∷ mem
 -- the same of these instructions
 abbrev pub deadness_text : List Retired → List ℕ
 deadness_text entries = dead_text (dead_counts (length entries) (classes_of entries))
+
+-- `flip`: what becomes of the run with a bit flipped, and in which cycle that is settled
+abbrev pub verdict_text : Verdict → List ℕ
+verdict_text (Same cycles) = concat (codes "same " ∷ decimal cycles ∷ codes "\n" ∷ [])
+verdict_text (Differs cycle) = concat (codes "differs " ∷ decimal cycle ∷ codes "\n" ∷ [])
+verdict_text (NoEnd cycle) = concat (codes "noend " ∷ decimal cycle ∷ codes "\n" ∷ [])
 
 -- `query`: the class of a bit, un-ACE with the number of its rule
 abbrev pub class_text : Class → List ℕ

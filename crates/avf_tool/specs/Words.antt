@@ -9,11 +9,13 @@ use Rattle.bit_field.specs.Names.{name_of}
 use Rattle.bit_field.specs.declared.places.Structure.{Structure}
 use Rattle.bit_field.specs.declared.shapes.Shape.{Shape}
 use Rattle.ace_class.specs.Counts.{structures}
+use Rattle.img_gen.specs.Program.{generated}
+use Rattle.img_gen.specs.declared.generator.TheConstants.{MAX_SIZE}
 use Rattle.run_record.specs.declared.recorded.TheConstants.{LONGEST_RUN}
 use Rattle.avf_tool.specs.Numbers.{number}
 use Rattle.avf_tool.specs.declared.command.BitInCycle.{BitInCycle}
 use Rattle.avf_tool.specs.declared.command.Task.{Task}
-use Rattle.avf_tool.specs.declared.command.Task.TheVariants.{Run, Dead, Query}
+use Rattle.avf_tool.specs.declared.command.Task.TheVariants.{Run, Dead, Report, Csv, Query, Flip}
 
 -- what is told of the run of an image: its file's name, the machine, and how many cycles the run may take
 pub record ImageJob : Type 0 where
@@ -22,9 +24,17 @@ pub record ImageJob : Type 0 where
   pub budget : ℕ
   pub task : Task
 
+-- a program that is generated: its number and its size, and the machine that runs it
+pub record BenchJob : Type 0 where
+  pub shape : Shape
+  pub number : ℕ
+  pub size : ℕ
+
 -- A command with its arguments. One that isn't about the run of an image in a file has a case of its own here.
 pub data Job : Type 0 where
   OnImage : ImageJob → Job
+  -- `bench`: the report of a generated program
+  Bench : BenchJob → Job
   -- `asm`: the file of the source that the file of a name holds
   Assemble : List ℕ → Job
 
@@ -59,7 +69,10 @@ abbrev pub tasks : List TaskWords
 tasks =
     record { name = codes "run"; reads = alone Run }
     ∷ record { name = codes "dead"; reads = alone Dead }
+    ∷ record { name = codes "report"; reads = alone Report }
+    ∷ record { name = codes "csv"; reads = alone Csv }
     ∷ record { name = codes "query"; reads = λ words. option_map Query (bit_words words) }
+    ∷ record { name = codes "flip"; reads = λ words. option_map Flip (bit_words words) }
     ∷ []
 
 -- what the first of these tasks with a name makes of the words
@@ -74,10 +87,21 @@ image_job shape image budget task =
     then option_map (λ n. OnImage (record { shape = shape; image = image; budget = n; task = task })) (number 1 LONGEST_RUN budget)
     else None
 
+-- `NAME IMAGE BUDGET ..`
+abbrev pub task_job : Shape → List ℕ → List (List ℕ) → Option Job
+task_job shape name (image ∷ budget ∷ words) = option_and_then (image_job shape image budget) (task_in tasks name words)
+task_job shape name _ = None
+
+-- NUMBER SIZE: below 2^64, and 1 to 4,096
+abbrev pub bench_job : Shape → List (List ℕ) → Option Job
+bench_job shape (count ∷ size ∷ []) =
+    option_and_then (λ n. option_map (λ s. Bench (record { shape = shape; number = n; size = s })) (number 1 MAX_SIZE size)) (number 0 (2 ^ 64 - 1) count)
+bench_job shape _ = None
+
 -- a command on a machine of a shape
 abbrev pub command_on : Shape → List (List ℕ) → Option Job
-command_on shape (name ∷ image ∷ budget ∷ words) = option_and_then (image_job shape image budget) (task_in tasks name words)
-command_on shape _ = None
+command_on shape (name ∷ words) = if bytes_eq name (codes "bench") then bench_job shape words else task_job shape name words
+command_on shape [] = None
 
 -- SETS: 16, 32, 64 or 128
 abbrev pub known_sets : ℕ → Option ℕ
@@ -118,9 +142,14 @@ command_of [] = None
 abbrev pub texts : List (String Global) → List (List ℕ)
 texts words = map string_bytes words
 
--- what a command reads, where that is told
+-- the report of a generated program's run, which may be as long as any
+abbrev pub bench_run : BenchJob → ImageJob
+bench_run job = record { shape = job.shape; image = []; budget = LONGEST_RUN; task = Report }
+
+-- what a command works on, where that is told: what it reads, or what it generates
 abbrev pub told_to : Job → (List ℕ → Option (List ℕ)) → Option (List ℕ)
 told_to (OnImage job) holds = holds job.image
+told_to (Bench job) holds = Some (generated job.number job.size)
 told_to (Assemble source) holds = holds source
 
 -- What a machine can run: the cycles and the shape are in their ranges.
@@ -129,6 +158,13 @@ pub record IsRunnable (job : ImageJob) : Type 0 where
   pub most : job.budget ≤ LONGEST_RUN
   pub shape : IsShape job.shape
 
+-- What can be generated: the size and the shape are in their ranges.
+pub record IsMakeable (job : BenchJob) : Type 0 where
+  pub least : 1 ≤ job.size
+  pub most : job.size ≤ MAX_SIZE
+  pub shape : IsShape job.shape
+
 abbrev pub IsDoable : Job → Type 0
 IsDoable (OnImage job) = IsRunnable job
+IsDoable (Bench job) = IsMakeable job
 IsDoable (Assemble source) = ⊤

@@ -2,12 +2,13 @@
 ghost use Rattle.std.specs.Prelude.{◌≡◌, MatchOption, IfSome, Some, None, option_map};
 ghost use Rattle.bit_field.specs.Shapes.{IsShape};
 ghost use Rattle.avf_tool.specs.Words as asked;
-ghost use Rattle.avf_tool.specs.Words.{IsDoable, asm_job, bit_words, command_of, command_on, structure_of, task_in, tasks, texts, with_job, word_number};
+ghost use Rattle.avf_tool.specs.Words.{IsDoable, asm_job, bit_words, command_of, command_on, structure_of, task_in, task_job, tasks, texts, with_job, word_number};
 ghost use Rattle.avf_tool.specs.Jobs.{job_of};
 
 use crate::numbers::number;
 use crate::shape::shape;
 use bit_field::{Shape, Structure, plain_shape, structure_named};
+use img_gen::MAX_SIZE;
 use run_log::LONGEST_RUN;
 
 /// A bit of a structure, counted from 0, and a cycle of the run, counted from 0. There is no structure where none has the name that
@@ -26,8 +27,14 @@ pub enum Task {
     Run,
     /// How many of its instructions are of each class.
     Dead,
+    /// How many pairs of a bit and a cycle have each class, as text for people.
+    Report,
+    /// The same as a table of comma-separated values.
+    Csv,
     /// The class of a bit in a cycle.
     Query(BitInCycle),
+    /// What becomes of the run with a bit flipped before a cycle.
+    Flip(BitInCycle),
 }
 
 /// What is told of the run of an image: the machine's shape, the name of the file that has the image, how many cycles the run
@@ -40,11 +47,21 @@ pub struct ImageCommand<'a> {
     pub task: Task,
 }
 
+/// A program that is generated: its number, its size, 1 to `MAX_SIZE`, and the shape of the machine that runs it.
+#[derive(Clone, Copy)]
+pub struct BenchCommand {
+    pub shape: Shape,
+    pub number: u64,
+    pub size: u32,
+}
+
 /// A command with its arguments.
 #[derive(Clone, Copy)]
 pub enum Command<'a> {
     /// It tells of the run of an image.
     Image(ImageCommand<'a>),
+    /// It tells of the run of a generated program.
+    Generated(BenchCommand),
     /// It assembles the source in the file of this name.
     Assembly(&'a str),
 }
@@ -103,6 +120,13 @@ fn query_words(words: &[String]) -> Option<Task>
     Some(Task::Query(bit_words(words)?))
 }
 
+// `flip` with the words behind IMAGE and BUDGET.
+fn flip_words(words: &[String]) -> Option<Task>
+    ensures { result ≡ option_map Task.Flip (bit_words (texts words.now)) }
+{
+    Some(Task::Flip(bit_words(words)?))
+}
+
 // The task of this name, with the words behind IMAGE and BUDGET. One line each.
 fn task_named(name: &str, words: &[String]) -> Option<Task>
     ensures { result ≡ task_in tasks name.now (texts words.now) }
@@ -110,7 +134,10 @@ fn task_named(name: &str, words: &[String]) -> Option<Task>
     match name {
         "run" => alone(words, Task::Run),
         "dead" => alone(words, Task::Dead),
+        "report" => alone(words, Task::Report),
+        "csv" => alone(words, Task::Csv),
         "query" => query_words(words),
+        "flip" => flip_words(words),
         _ => None,
     }
 }
@@ -132,6 +159,41 @@ fn image_command<'a>(shape: Shape, image: &'a str, budget: &str, task: Task) -> 
     }))
 }
 
+// NAME IMAGE BUDGET and further words.
+fn task_command<'a>(shape: Shape, name: &str, words: &'a [String]) -> Option<Command<'a>>
+    requires { IsShape shape }
+    ensures is { MatchOption result (task_job shape name.now (texts words.now) ≡ None) (λ c. task_job shape name.now (texts words.now) ≡ Some (job_of c)) }
+    ensures does { IfSome result (λ c. IsDoable (job_of c)) }
+{
+    match words {
+        [image, budget, words @ ..] => {
+            let task = task_named(name, words)?;
+            image_command(shape, image.as_str(), budget.as_str(), task)
+        }
+        _ => None,
+    }
+}
+
+// NUMBER SIZE.
+fn bench_command<'a>(shape: Shape, words: &'a [String]) -> Option<Command<'a>>
+    requires { IsShape shape }
+    ensures is { MatchOption result (asked.bench_job shape (texts words.now) ≡ None) (λ c. asked.bench_job shape (texts words.now) ≡ Some (job_of c)) }
+    ensures does { IfSome result (λ c. IsDoable (job_of c)) }
+{
+    match words {
+        [count, size] => {
+            let count = number(count.as_str(), 0, u64::MAX)?;
+            let size = number(size.as_str(), 1, u64::from(MAX_SIZE))?;
+            Some(Command::Generated(BenchCommand {
+                shape,
+                number: count,
+                size: size as u32,
+            }))
+        }
+        _ => None,
+    }
+}
+
 // The command that these words are, on a machine of this shape.
 fn command_on(shape: Shape, words: &[String]) -> Option<Command<'_>>
     requires { IsShape shape }
@@ -139,11 +201,14 @@ fn command_on(shape: Shape, words: &[String]) -> Option<Command<'_>>
     ensures does { IfSome result (λ c. IsDoable (job_of c)) }
 {
     match words {
-        [name, image, budget, words @ ..] => {
-            let task = task_named(name.as_str(), words)?;
-            image_command(shape, image.as_str(), budget.as_str(), task)
+        [name, args @ ..] => {
+            if name.as_str() == "bench" {
+                bench_command(shape, args)
+            } else {
+                task_command(shape, name.as_str(), args)
+            }
         }
-        _ => None,
+        [] => None,
     }
 }
 

@@ -7,7 +7,9 @@ mod numbers;
 mod shape;
 
 // What a command answers.
+mod bits;
 mod perform;
+mod reports;
 mod stages;
 mod texts;
 

@@ -1,26 +1,25 @@
 // What each command answers.
-ghost use Rattle.std.specs.Prelude.{◌≡◌, ◌≤◌, ◌<◌, List, ℕ, length};
-ghost use Rattle.bit_field.specs.Shapes.{IsPlaceIn};
-ghost use Rattle.rv_isa.specs.Runs.{IsTrace};
-ghost use Rattle.avf_tool.specs.Answers.{Text, answer, class_due, only, place_due, query_due, task_answer};
-ghost use Rattle.avf_tool.specs.Texts as texts;
-ghost use Rattle.avf_tool.specs.Jobs.{image_job_of, job_of};
+ghost use Rattle.std.specs.Prelude.{◌≡◌, ◌≤◌, ◌+◌, ◌-◌, ◌*◌, List, ℕ, Some, true, length};
+ghost use Rattle.avf_tool.specs.Answers.{answer, image_answer, task_answer};
+ghost use Rattle.avf_tool.specs.Jobs.{bench_job_of, image_job_of, job_of};
+ghost use Rattle.img_gen.specs.Program.{generated};
 ghost use Rattle.run_log.specs.Answers.{IsProgram};
 ghost use Rattle.avf_tool.specs.Stages.{Answers, IsDeadText, IsText};
-ghost use Rattle.avf_tool.specs.Words.{Assemble, IsDoable, IsRunnable, OnImage, told_to};
+ghost use Rattle.avf_tool.specs.Work.{IsFew, WorkOf, tells_of_one_run};
+ghost use Rattle.avf_tool.specs.Words.{Assemble, Bench, IsDoable, IsMakeable, IsRunnable, OnImage, bench_run, told_to};
 
-use crate::command::{BitInCycle, Command, ImageCommand, Task};
+use crate::bits::{flip_answer, query_answer};
+use crate::command::{BenchCommand, Command, ImageCommand, Task};
+use crate::reports::{csv_answer, report_answer};
 use crate::stages::{
-    IMAGE_LIMIT, assemble_source, load_image, read_image, read_source, run_image, trace_run,
+    IMAGE_LIMIT, assemble_source, generate_image, load_image, read_image, read_source, run_image,
+    trace_run,
 };
-use crate::texts::{class_text, dead_counts, dead_text, run_text};
-use ace_class::Class;
-use ace_rules::Analysis;
+use crate::texts::{dead_counts, dead_text, run_text};
 use avf_base::{Refusal, Shelf, Steps};
-use bit_field::Place;
 use dead_class::classify;
 use need_pass::needs;
-use run_log::Recorded;
+use run_log::{LONGEST_RUN, Recorded};
 use rv_isa::Trace;
 use std::alloc::Global;
 use std::sync::ledger::Ledger;
@@ -50,93 +49,11 @@ fn dead_answer<M: Ledger>(
     applies: &mut Steps<M>,
 ) -> Result<Vec<u8>, Refusal>
     requires { IsProgram run.now }
-    ensures { IsText (task_answer Task.Dead run.now) result }
+    ensures text { IsText (task_answer Task.Dead run.now) result }
+    ensures applies { applies.new ≤ applies.old + run.now.instructions }
 {
     let trace = trace_run(alloc, run, applies)?;
     dead_of(alloc, &trace)
-}
-
-// The text of a class.
-fn class_bytes(alloc: Global, class: Class) -> Result<Vec<u8>, Refusal>
-    ensures { IsText (only (Text (texts.class_text class))) result }
-{
-    let text = class_text(alloc, class)?;
-    Ok(text.into_bytes())
-}
-
-// The class of the bit at a place in a cycle.
-fn class_answer(
-    alloc: Global,
-    analysis: &Analysis<'_>,
-    place: &Place,
-    cycle: u32,
-) -> Result<Vec<u8>, Refusal>
-    requires program { IsProgram analysis.now.r }
-    requires place { IsPlaceIn analysis.now.r.shape place.now }
-    requires cycle { cycle < analysis.now.r.cycles }
-    requires traced { IsTrace analysis.now.r.image analysis.now.r.clocks analysis.now.run }
-    ensures { IsText (class_due analysis.now.r place.now cycle) result }
-{
-    let class = analysis.class_of(place, cycle);
-    class_bytes(alloc, class)
-}
-
-// The same, where there are such a bit and such a cycle.
-#[tactic(auto, using(crate::proofs::Queries::inside, crate::proofs::Queries::outside))]
-fn place_answer(
-    alloc: Global,
-    analysis: &Analysis<'_>,
-    place: &Place,
-    cycle: u32,
-) -> Result<Vec<u8>, Refusal>
-    requires program { IsProgram analysis.now.r }
-    requires traced { IsTrace analysis.now.r.image analysis.now.r.clocks analysis.now.run }
-    ensures { IsText (place_due analysis.now.r cycle place.now) result }
-{
-    if analysis.in_range(place, cycle) {
-        class_answer(alloc, analysis, place, cycle)
-    } else {
-        Err(Refusal::NoSuchBit)
-    }
-}
-
-// The same of a recorded run.
-fn run_place_answer<L: Ledger, M: Ledger>(
-    alloc: Global,
-    place: &Place,
-    cycle: u32,
-    run: Recorded<'_>,
-    steps: &mut Steps<L>,
-    applies: &mut Steps<M>,
-) -> Result<Vec<u8>, Refusal>
-    requires { IsProgram run }
-    ensures { IsText (place_due run.entry cycle place.now) result }
-{
-    let analysis = Analysis::new(alloc, run, steps, applies)?;
-    place_answer(alloc, &analysis, place, cycle)
-}
-
-// The class of a bit in a cycle, where there are such ones.
-fn query_answer<L: Ledger, M: Ledger>(
-    alloc: Global,
-    asked: BitInCycle,
-    run: Recorded<'_>,
-    steps: &mut Steps<L>,
-    applies: &mut Steps<M>,
-) -> Result<Vec<u8>, Refusal>
-    requires { IsProgram run }
-    ensures { IsText (query_due run.entry asked asked.structure) result }
-{
-    match asked.structure {
-        Some(structure) => {
-            let place = Place {
-                structure,
-                bit: asked.bit,
-            };
-            run_place_answer(alloc, &place, asked.cycle, run, steps, applies)
-        }
-        None => Err(Refusal::NoSuchBit),
-    }
 }
 
 // What is told of a run, one line a task.
@@ -148,12 +65,17 @@ fn task_answer<L: Ledger, M: Ledger>(
     applies: &mut Steps<M>,
 ) -> Result<Vec<u8>, Refusal>
     requires { IsProgram run }
-    ensures { IsText (task_answer task run.entry) result }
+    ensures text { IsText (task_answer task run.entry) result }
+    ensures steps { tells_of_one_run task ≡ true → steps.new ≤ steps.old + run.entry.cycles }
+    ensures applies { applies.new ≤ applies.old + 34 * run.entry.instructions }
 {
     match task {
         Task::Run => run_answer(alloc, &run),
         Task::Dead => dead_answer(alloc, &run, applies),
-        Task::Query(asked) => query_answer(alloc, asked, run, steps, applies),
+        Task::Report => report_answer(alloc, run, steps, applies),
+        Task::Csv => csv_answer(alloc, run, steps, applies),
+        Task::Query(asked) => query_answer(alloc, &asked, run, steps, applies),
+        Task::Flip(asked) => flip_answer(alloc, &asked, &run, steps),
     }
 }
 
@@ -167,7 +89,8 @@ fn answer<L: Ledger, M: Ledger>(
 ) -> Result<Vec<u8>, Refusal>
     requires size { length contents.now ≤ IMAGE_LIMIT }
     requires does { IsRunnable (image_job_of command.now) }
-    ensures { IsText (answer (OnImage (image_job_of command.now)) contents.now) result }
+    ensures text { IsText (image_answer (image_job_of command.now) contents.now) result }
+    ensures work { IsFew (image_job_of command.now) contents.now (steps.new - steps.old) (applies.new - applies.old) }
 {
     let image = load_image(alloc, contents, &command.shape)?;
     let recorded = run_image(alloc, &image, &command.shape, command.budget, steps)?;
@@ -186,9 +109,39 @@ fn tell_image<H: Shelf, L: Ledger, M: Ledger>(
     ensures answer { Answers (OnImage (image_job_of command.now)) (H.holds shelf.old command.now.image.now) (H.faults shelf.old) (H.faults shelf.new) result }
     ensures keeps { (n : List ℕ) → H.holds shelf.new n ≡ H.holds shelf.old n }
     ensures later { H.faults shelf.old ≤ H.faults shelf.new }
+    ensures work { WorkOf (OnImage (image_job_of command.now)) (H.holds shelf.old command.now.image.now) (steps.new - steps.old) (applies.new - applies.old) }
 {
     let contents = read_image(alloc, shelf, command.image)?;
     answer(alloc, command, &contents, steps, applies)
+}
+
+// The report of a generated program, which may run as long as any.
+fn report_command(bench: &BenchCommand) -> ImageCommand<'static>
+    requires { IsMakeable (bench_job_of bench.now) }
+    ensures is { image_job_of result ≡ bench_run (bench_job_of bench.now) }
+    ensures does { IsRunnable (image_job_of result) }
+{
+    ImageCommand {
+        shape: bench.shape,
+        image: "",
+        budget: LONGEST_RUN,
+        task: Task::Report,
+    }
+}
+
+// Generates a program, and tells of its run.
+fn tell_generated<L: Ledger, M: Ledger>(
+    alloc: Global,
+    bench: &BenchCommand,
+    steps: &mut Steps<L>,
+    applies: &mut Steps<M>,
+) -> Result<Vec<u8>, Refusal>
+    requires { IsMakeable (bench_job_of bench.now) }
+    ensures text { IsText (answer (Bench (bench_job_of bench.now)) (generated bench.now.number bench.now.size)) result }
+    ensures work { WorkOf (Bench (bench_job_of bench.now)) (Some (generated bench.now.number bench.now.size)) (steps.new - steps.old) (applies.new - applies.old) }
+{
+    let contents = generate_image(alloc, bench.number, bench.size)?;
+    answer(alloc, &report_command(bench), &contents, steps, applies)
 }
 
 // Reads a source, and assembles it.
@@ -214,9 +167,11 @@ pub fn perform<H: Shelf, L: Ledger, M: Ledger>(
     ensures answer { Answers (job_of command.now) (told_to (job_of command.now) (H.holds shelf.old)) (H.faults shelf.old) (H.faults shelf.new) result }
     ensures keeps { (n : List ℕ) → H.holds shelf.new n ≡ H.holds shelf.old n }
     ensures later { H.faults shelf.old ≤ H.faults shelf.new }
+    ensures work { WorkOf (job_of command.now) (told_to (job_of command.now) (H.holds shelf.old)) (steps.new - steps.old) (applies.new - applies.old) }
 {
     match command {
         Command::Image(command) => tell_image(alloc, command, shelf, steps, applies),
+        Command::Generated(command) => tell_generated(alloc, command, steps, applies),
         Command::Assembly(source) => assemble_file(alloc, source, shelf),
     }
 }

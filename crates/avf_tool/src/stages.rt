@@ -1,15 +1,20 @@
 // What the commands have in common: a file is read, an image is loaded, and it runs.
-ghost use Rattle.std.specs.Prelude.{◌≡◌, ◌≤◌, List, ℕ, length, IfOk};
+ghost use Rattle.std.specs.Prelude.{◌≡◌, ◌≤◌, ◌+◌, List, ℕ, Some, length, IfOk};
 ghost use Rattle.avf_base.specs.Refusals.{ByContents, cause_of};
 ghost use Rattle.avf_base.specs.declared.refusal.Refusal.TheVariants.{BadImage, BadSource};
 ghost use Rattle.bit_field.specs.Shapes.{IsShape};
-ghost use Rattle.avf_tool.specs.Answers.{only, ram_size, source_answer};
+ghost use Rattle.img_gen.specs.Program.{generated};
+ghost use Rattle.avf_tool.specs.Answers.{ram_size, source_answer};
+ghost use Rattle.avf_tool.specs.Due.{only};
+ghost use Rattle.run_record.specs.Run.{RecordedRun};
+ghost use Rattle.run_record.specs.Within.{record_within};
 ghost use Rattle.run_log.specs.Answers.{IsProgram};
-ghost use Rattle.avf_tool.specs.Stages.{IsLoaded, IsRead, IsText, Ran, Traced};
+ghost use Rattle.avf_tool.specs.Stages.{IsLoaded, IsMade, IsRead, IsText, Ran, Traced};
 
 use avf_base::{ReadError, Refusal, Shelf, Steps, read_file};
 use bit_field::Shape;
 use elf_load::{Image, LoadError, load};
+use img_gen::{GenError, MAX_SIZE, generate};
 use run_log::{LONGEST_RUN, RecordError, Recorded, record_shaped};
 use rv_asm::{AsmError, SOURCE_ROOM, assemble};
 use rv_isa::{IsaError, Trace, run_clocked};
@@ -86,6 +91,21 @@ pub fn assemble_source(alloc: Global, source: &[u8]) -> Result<Vec<u8>, Refusal>
     }
 }
 
+/// The image of a number and a size.
+#[tactic(auto, using(crate::proofs::Generated::fits, crate::proofs::Generated::good_size))]
+pub fn generate_image(alloc: Global, number: u64, size: u32) -> Result<Vec<u8>, Refusal>
+    requires least { 1 ≤ size }
+    requires most { size ≤ MAX_SIZE }
+    ensures made { IsMade (generated number size) result }
+    ensures fits { IfOk result (λ image. length image.items ≤ IMAGE_LIMIT) }
+{
+    match generate(alloc, number, size) {
+        Ok(image) => Ok(image),
+        Err(GenError::BadSize) => unreachable!(),
+        Err(GenError::OutOfMemory) => Err(Refusal::OutOfMemory),
+    }
+}
+
 /// The image that a file's bytes mean on a machine of this shape, or the first reason to refuse them.
 #[tactic(auto, using(crate::proofs::Rams::lemmas))]
 pub fn load_image(alloc: Global, contents: &[u8], shape: &Shape) -> Result<Image, Refusal>
@@ -113,7 +133,9 @@ pub fn run_image<'i, L: Ledger>(
     requires ram { length image.now.ram ≡ ram_size shape.now }
     requires least { 1 ≤ budget }
     requires most { budget ≤ LONGEST_RUN }
-    ensures { Ran shape.now image.now budget result }
+    ensures ran { Ran shape.now image.now budget result }
+    ensures ticks { IfOk result (λ run. steps.new ≡ steps.old + run.cycles) }
+    ensures within { (run : RecordedRun) → record_within image.now shape.now budget ≡ Some run → steps.new ≤ steps.old + run.cycles }
 {
     match record_shaped(alloc, image, shape, budget, steps) {
         Ok(run) => Ok(run),
@@ -130,7 +152,8 @@ pub fn trace_run<M: Ledger>(
     applies: &mut Steps<M>,
 ) -> Result<Trace, Refusal>
     requires { IsProgram run.now }
-    ensures { Traced run.now result }
+    ensures traced { Traced run.now result }
+    ensures ticks { applies.new ≤ applies.old + run.now.instructions }
 {
     match run_clocked(
         alloc,

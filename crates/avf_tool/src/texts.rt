@@ -6,6 +6,7 @@ ghost use Rattle.avf_tool.specs.Texts as texts;
 use ace_class::Class;
 use avf_base::End;
 use dead_class::{DeadClass, DeadTable};
+use flip_replay::Verdict;
 use run_log::Recorded;
 use std::alloc::{AllocError, Global};
 
@@ -120,5 +121,16 @@ pub fn class_text(alloc: Global, class: Class) -> Result<String, AllocError>
             let number = rule.number();
             format!(in alloc; "unace U{number}\n")
         }
+    }
+}
+
+/// The text of `flip`: what becomes of the run with a bit flipped.
+pub fn verdict_text(alloc: Global, verdict: Verdict) -> Result<String, AllocError>
+    ensures { IfOk result (λ text. string_bytes text ≡ texts.verdict_text verdict) }
+{
+    match verdict {
+        Verdict::Same(cycles) => format!(in alloc; "same {cycles}\n"),
+        Verdict::Differs(cycle) => format!(in alloc; "differs {cycle}\n"),
+        Verdict::NoEnd(cycle) => format!(in alloc; "noend {cycle}\n"),
     }
 }

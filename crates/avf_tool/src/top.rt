@@ -1,9 +1,10 @@
 // The top call.
-ghost use Rattle.std.specs.Prelude.{◌≡◌, ◌⊎◌, List, ℕ, IfOk, string_bytes};
+ghost use Rattle.std.specs.Prelude.{◌≡◌, ◌⊎◌, ◌-◌, List, ℕ, IfOk, string_bytes};
 ghost use Rattle.avf_base.specs.Refusals.{line_of};
 ghost use Rattle.avf_tool.specs.Ends.{ByStatus, Ends, MayTell, Serves, TookLine, faults_of, use_of};
 ghost use Rattle.avf_tool.specs.Law.{ProgramLaw};
 ghost use Rattle.avf_tool.specs.Words.{command_of, texts};
+ghost use Rattle.avf_tool.specs.Work.{Works};
 
 use crate::command::read_words;
 use crate::perform::perform;
@@ -22,6 +23,7 @@ fn serve<H: Shelf, O: Sink, L: Ledger, M: Ledger>(
 ) -> Result<(), Refusal>
     ensures serves { Serves (command_of (texts words.now)) (H.holds shelf.old) (faults_of H.faults shelf.old shelf.new) (use_of O.taken O.faults out.old out.new) result }
     ensures keeps { (n : List ℕ) → H.holds shelf.new n ≡ H.holds shelf.old n }
+    ensures work { Works (command_of (texts words.now)) (H.holds shelf.old) (steps.new - steps.old) (applies.new - applies.old) }
 {
     let Some(command) = read_words(words) else {
         return Err(Refusal::Usage);
@@ -80,6 +82,13 @@ fn refuse<E: Sink>(alloc: Global, refusal: Refusal, err: &mut E) -> Refusal
                 format!(in alloc; "avf: bad source {line} {cause}\n"),
             );
         }
+        Refusal::BadMap { line, cause } => {
+            return say_made(
+                err,
+                refusal,
+                format!(in alloc; "avf: bad map {line} {cause}\n"),
+            );
+        }
     }
     refusal
 }
@@ -97,6 +106,7 @@ fn end<H: Shelf, O: Sink, E: Sink, L: Ledger, M: Ledger>(
     ensures ends { Ends (command_of (texts words.now)) (H.holds shelf.old) (faults_of H.faults shelf.old shelf.new)
         (use_of O.taken O.faults out.old out.new) (use_of E.taken E.faults err.old err.new) result }
     ensures keeps { (n : List ℕ) → H.holds shelf.new n ≡ H.holds shelf.old n }
+    ensures work { Works (command_of (texts words.now)) (H.holds shelf.old) (steps.new - steps.old) (applies.new - applies.old) }
 {
     match serve(alloc, words, shelf, out, steps, applies) {
         Ok(()) => 0,
@@ -124,6 +134,7 @@ pub fn run_tool<H: Shelf, O: Sink, E: Sink, L: Ledger, M: Ledger>(
         (use_of O.taken O.faults out.old out.new) (use_of E.taken E.faults err.old err.new) result }
     ensures keeps { (n : List ℕ) → H.holds shelf.new n ≡ H.holds shelf.old n }
     ensures programs { ProgramLaw }
+    ensures work { Works (command_of (texts words.now)) (H.holds shelf.old) (steps.new - steps.old) (applies.new - applies.old) }
 {
     end(alloc, words, shelf, out, err, steps, applies)
 }

@@ -1,7 +1,7 @@
 -- Where registers and memories can differ after writes and stores, and what is the same where it is needed.
 use Rattle.std.proofs.Common.{◌≡◌, ◌↔◌, ℕ, ◌+◌, ◌*◌, ◌/◌, ◌^◌, ◌<◌, true, false, Bool, refl, sym, ◌∙◌, ap, arith, inl, inr, IsTrue}
 use Rattle.std.specs.Int.{bit_at}
-use Rattle.std.specs.Prelude.{bit_and, bit_xor, nat_eq, Option, Some, None}
+use Rattle.std.specs.Prelude.{◌⊎◌, bit_and, bit_xor, nat_eq, Option, Some, None}
 use Rattle.std.proofs.lemmas.Bool.{cases_lt, cases_eq, eqb-true}
 use Rattle.std.proofs.lemmas.Bool.Decides.{nat_tests}
 use Rattle.std.proofs.lemmas.Nat.Bits.{bit_at-lt, bit_at-zero, bit_at_and, bit_at_xor, bit_at_above, same_from_bits}
@@ -11,7 +11,7 @@ use Rattle.rv_table.specs.declared.operation.StoreKind.{StoreKind}
 use Rattle.rv_table.specs.declared.operation.StoreKind.TheVariants.{Sb, Sh, Sw}
 use Rattle.need_pass.specs.Tables.{Needs, byte_need, reg_need}
 use Rattle.eval_mask.specs.Aftermaths.{memory_after, registers_after, stored_over, written}
-use Rattle.eval_mask.specs.Compared.{SameByte, SameBytes, SameCovered, SameRegister, SameRegisters, SameRun, SameWhere, covers}
+use Rattle.eval_mask.specs.Compared.{SameByte, SameBytes, SameCovered, SameRegister, SameRegisters, SameRun, SameStored, SameWhere, SameWritten, covers, need_at}
 use Rattle.eval_mask.specs.declared.completing.Aftermath.{Aftermath}
 use Rattle.eval_mask.specs.declared.completing.Store.{Store}
 use Rattle.eval_mask.specs.declared.completing.Write.{Write}
@@ -44,56 +44,77 @@ same_needed n mask a b h = (
   λ s. rw (all_same n mask a b h s) refl,
 )
 
+pub need_inside : (needs : Needs) (r j : ℕ) → 0 < r → r < 32 → need_at needs r j ≡ reg_need needs r j
+need_inside needs r j h l = grind (arith, nat_tests)
+
 pub same_all : (n mask a b : ℕ) → a ≡ b → SameWhere n mask a b
 same_all n mask a b e = record { same = λ k l one. ap (λ (v : ℕ). bit_at v k) e }
+
+-- a need that is known
+pub known_mask : (needs : Needs) (r q j mask : ℕ) → mask ≡ need_at needs q j → r ≡ q → 0 < r → r < 32 → mask ≡ reg_need needs r j
+known_mask needs r q j mask e f above below = e ∙ ap (λ (s : ℕ). need_at needs s j) (sym f) ∙ need_inside needs r j above below
 
 -- ---- registers
 
 unwritten : (w : Write) (f : ℕ → ℕ) (r : ℕ) → (r ≡ w.rd → ⊥) → written w f r ≡ f r
 unwritten w f r ne = grind (arith, nat_tests)
 
-unwritten_after : (x : Aftermath) (f : ℕ → ℕ) (r : ℕ) → (r ≡ x.first.rd → ⊥) → (r ≡ x.below.write.rd → ⊥) → (r ≡ x.above.write.rd → ⊥)
-    → registers_after x f r ≡ f r
-unwritten_after x f r p q s =
-    unwritten x.above.write (written x.below.write (written x.first f)) r s
-    ∙ unwritten x.below.write (written x.first f) r q
-    ∙ unwritten x.first f r p
+write_over : (w : Write) (f g : ℕ → ℕ) (r : ℕ) → f r ≡ g r → written w f r ≡ written w g r
+write_over w f g r e = grind (arith, nat_tests)
 
 -- what holds at one number and at all others
 at_or : (P : ℕ → Type 0) (r s : ℕ) → P s → ((r ≡ s → ⊥) → P r) → P r
 at_or P r s here there = elim (cases_eq r s) [ inl e ↦ rw e here | inr ne ↦ there ne ]
 
+-- at register r two writes change values that are the same to values that are the same
+abbrev PassesAt : Write → Write → ℕ → Type 0
+PassesAt a b r = (a ≡ b) ⊎ ((r ≡ a.rd → ⊥) × (r ≡ b.rd → ⊥))
+
+written_same : (a b : Write) (f g : ℕ → ℕ) (r : ℕ) → PassesAt a b r → f r ≡ g r → written a f r ≡ written b g r
+written_same a b f g r (inl e) h = rw e (write_over b f g r h)
+written_same a b f g r (inr (m, n)) h = unwritten a f r m ∙ h ∙ sym (unwritten b g r n)
+
+written_or : (needs : Needs) (j : ℕ) (f g : ℕ → ℕ) (a b : Write) (r : ℕ) → SameWritten needs j f g a b
+    → (PassesAt a b r → SameRegister needs j f g r) → SameRegister needs j f g r
+written_or needs j f g a b r s on = elim s.same [
+  | inl e ↦ on (inl e)
+  | inr both ↦
+      at_or (SameRegister needs j f g) r a.rd (both.0)
+      (λ m. at_or (SameRegister needs j f g) r b.rd (both.1) (λ n. on (inr (m, n))))
+]
+
+pub same_writes : (needs : Needs) (j : ℕ) (f g : ℕ → ℕ) (a b : Write) → a ≡ b → SameWritten needs j f g a b
+same_writes needs j f g a b e = record { same = inl e }
+
+pub both_registers : (needs : Needs) (j : ℕ) (f g : ℕ → ℕ) (a b : Write) → SameRegister needs j f g a.rd → SameRegister needs j f g b.rd
+    → SameWritten needs j f g a b
+both_registers needs j f g a b s t = record { same = inr (s, t) }
+
+pub ruleset registers_told = (same_writes, both_registers)
+
 pub all_registers : (needs : Needs) (j : ℕ) (f : ℕ → ℕ) (x y : Aftermath)
-    → SameRegister needs j (registers_after x f) (registers_after y f) x.first.rd
-    → SameRegister needs j (registers_after x f) (registers_after y f) x.below.write.rd
-    → SameRegister needs j (registers_after x f) (registers_after y f) x.above.write.rd
-    → SameRegister needs j (registers_after x f) (registers_after y f) y.first.rd
-    → SameRegister needs j (registers_after x f) (registers_after y f) y.below.write.rd
-    → SameRegister needs j (registers_after x f) (registers_after y f) y.above.write.rd
+    → SameWritten needs j (registers_after x f) (registers_after y f) x.above.write y.above.write
+    → SameWritten needs j (registers_after x f) (registers_after y f) x.below.write y.below.write
+    → SameWritten needs j (registers_after x f) (registers_after y f) x.first y.first
     → SameRegisters needs j (registers_after x f) (registers_after y f)
-all_registers needs j f x y a b c d e g =
-    let P = SameRegister needs j (registers_after x f) (registers_after y f) in
+all_registers needs j f x y above below first =
+    let g = registers_after x f in
+    let h = registers_after y f in
     record {
       same =
           λ r.
-          at_or P r x.first.rd a
-          (λ na.
-          at_or P r x.below.write.rd b
-          (λ nb.
-          at_or P r x.above.write.rd c
-          (λ nc.
-          at_or P r y.first.rd d
-          (λ nd.
-          at_or P r y.below.write.rd e
-          (λ ne.
-          at_or P r y.above.write.rd g
-          (λ ng.
+          written_or needs j g h x.above.write y.above.write r above
+          (λ c.
+          written_or needs j g h x.below.write y.below.write r below
+          (λ b.
+          written_or needs j g h x.first y.first r first
+          (λ a.
           record {
             same =
-                λ above below.
-                same_all 32 (reg_need needs r j) (registers_after x f r) (registers_after y f r)
-                (unwritten_after x f r na nb nc ∙ sym (unwritten_after y f r nd ne ng));
-          }))))));
+                λ over under.
+                same_all 32 (reg_need needs r j) (g r) (h r)
+                (written_same x.above.write y.above.write _ _ r c (written_same x.below.write y.below.write _ _ r b (written_same x.first y.first f f r a refl)));
+          })));
     }
 
 -- ---- bytes
@@ -103,37 +124,65 @@ unfolding stored
 uncovered None f p e = refl
 uncovered (Some store) f p e = grind (arith, nat_tests)
 
-uncovered_after : (x : Aftermath) (f : ℕ → ℕ) (p : ℕ) → covers x.below.store p ≡ false → covers x.above.store p ≡ false → memory_after x f p ≡ f p
-uncovered_after x f p b a = uncovered x.above.store (stored_over x.below.store f) p a ∙ uncovered x.below.store f p b
+store_over : (store : Option Store) (f g : ℕ → ℕ) (p : ℕ) → f p ≡ g p → stored_over store f p ≡ stored_over store g p
+unfolding stored
+store_over None f g p e = e
+store_over (Some store) f g p e = grind (arith, nat_tests)
 
 -- what holds where a test does and where it doesn't
 if_or : (P : Type 0) (t : Bool) → (t ≡ true → P) → (t ≡ false → P) → P
 if_or P true here there = here refl
 if_or P false here there = there refl
 
-pub all_bytes : (needs : Needs) (j : ℕ) (f : ℕ → ℕ) (x y : Aftermath) → SameCovered needs j (memory_after x f) (memory_after y f) x.below.store
-    → SameCovered needs j (memory_after x f) (memory_after y f) x.above.store
-    → SameCovered needs j (memory_after x f) (memory_after y f) y.below.store
-    → SameCovered needs j (memory_after x f) (memory_after y f) y.above.store → SameBytes needs j (memory_after x f) (memory_after y f)
-all_bytes needs j f x y a b c d =
+-- at byte p two stores change bytes that are the same to bytes that are the same
+abbrev PassesOver : Option Store → Option Store → ℕ → Type 0
+PassesOver a b p = (a ≡ b) ⊎ ((covers a p ≡ false) × (covers b p ≡ false))
+
+stored_same : (a b : Option Store) (f g : ℕ → ℕ) (p : ℕ) → PassesOver a b p → f p ≡ g p → stored_over a f p ≡ stored_over b g p
+stored_same a b f g p (inl e) h = rw e (store_over b f g p h)
+stored_same a b f g p (inr (m, n)) h = uncovered a f p m ∙ h ∙ sym (uncovered b g p n)
+
+stored_or : (needs : Needs) (j : ℕ) (f g : ℕ → ℕ) (a b : Option Store) (p : ℕ) → SameStored needs j f g a b
+    → (PassesOver a b p → SameByte needs j f g p) → SameByte needs j f g p
+stored_or needs j f g a b p s on = elim s.same [
+  | inl e ↦ on (inl e)
+  | inr both ↦
+      if_or (SameByte needs j f g p) (covers a p) (both.0.same p)
+      (λ m. if_or (SameByte needs j f g p) (covers b p) (both.1.same p) (λ n. on (inr (m, n))))
+]
+
+pub same_stores : (needs : Needs) (j : ℕ) (f g : ℕ → ℕ) (a b : Option Store) → a ≡ b → SameStored needs j f g a b
+same_stores needs j f g a b e = record { same = inl e }
+
+pub both_covered : (needs : Needs) (j : ℕ) (f g : ℕ → ℕ) (a b : Option Store) → SameCovered needs j f g a → SameCovered needs j f g b
+    → SameStored needs j f g a b
+both_covered needs j f g a b s t = record { same = inr (s, t) }
+
+pub covered_all : (needs : Needs) (j : ℕ) (f g : ℕ → ℕ) (a : Option Store) → SameBytes needs j f g → SameCovered needs j f g a
+covered_all needs j f g a s = record { same = λ p c. s.same p }
+
+pub ruleset bytes_told = (same_stores, both_covered, covered_all)
+
+pub all_bytes : (needs : Needs) (j : ℕ) (f : ℕ → ℕ) (x y : Aftermath)
+    → SameStored needs j (memory_after x f) (memory_after y f) x.below.store y.below.store
+    → SameStored needs j (memory_after x f) (memory_after y f) x.above.store y.above.store
+    → SameBytes needs j (memory_after x f) (memory_after y f)
+all_bytes needs j f x y below above =
+    let g = memory_after x f in
+    let h = memory_after y f in
     record {
       same =
           λ p.
-          let P = SameByte needs j (memory_after x f) (memory_after y f) p in
-          if_or P (covers x.below.store p) (a.same p)
-          (λ na.
-          if_or P (covers x.above.store p) (b.same p)
-          (λ nb.
-          if_or P (covers y.below.store p) (c.same p)
-          (λ nc.
-          if_or P (covers y.above.store p) (d.same p)
-          (λ nd.
+          stored_or needs j g h x.below.store y.below.store p below
+          (λ b.
+          stored_or needs j g h x.above.store y.above.store p above
+          (λ a.
           record {
             same =
                 λ l.
-                same_all 8 (byte_need needs p j) (memory_after x f p) (memory_after y f p)
-                (uncovered_after x f p na nb ∙ sym (uncovered_after y f p nc nd));
-          }))));
+                same_all 8 (byte_need needs p j) (g p) (h p)
+                (stored_same x.above.store y.above.store _ _ p a (stored_same x.below.store y.below.store f f p b refl));
+          }));
     }
 
 -- ---- the bytes of a store

@@ -1,9 +1,9 @@
 -- The outcome told by an aftermath, and masked bits by it.
-use Rattle.std.proofs.Common.{◌≡◌, ◌↔◌, ℕ, Bool, true, false, refl, sym, ◌∙◌, ap, arith}
-use Rattle.std.specs.Prelude.{◌==◌, ◌&&◌, ◌/◌, IsTrue, is_none, slice_index, Some, None, if◌then◌else◌}
+use Rattle.std.proofs.Common.{◌≡◌, ◌↔◌, ℕ, ◌<◌, ◌≤◌, Bool, true, false, refl, sym, ◌∙◌, ap, arith}
+use Rattle.std.specs.Prelude.{◌/◌, IsTrue, slice_index, Some, None, if◌then◌else◌}
 use Rattle.elf_load.specs.Image.{LoadedImage, word_in_ram}
 use Rattle.rv_table.specs.Accesses.{stored}
-use Rattle.rv_table.specs.Actions.{next_address, with_counter}
+use Rattle.rv_table.specs.Actions.{with_counter}
 use Rattle.rv_table.specs.Effects.{written_register}
 use Rattle.rv_table.specs.declared.action.Action.{Action}
 use Rattle.rv_table.specs.declared.action.Action.TheVariants.{Stores}
@@ -17,13 +17,14 @@ use Rattle.pipe_latch.specs.LatchedActions.{action_of}
 use Rattle.pipe_latch.specs.Latches.{DecodedLatch, ExecutedLatch, ResultLatch, op_of_latch}
 use Rattle.cyc_machine.specs.InFlight.{completed_item, item_of_latch, latches_completed, operand_held, outcome}
 use Rattle.need_pass.specs.Tables.{Needs}
-use Rattle.eval_mask.specs.Aftermaths.{Tells, aftermath_of, change_of, no_change, state_after, store_by, stored_over}
+use Rattle.eval_mask.specs.Aftermaths.{Tells, aftermath_of, change_of, doing_of, doing_with, is_completed, left_by, no_change, state_after, store_by, stored_over}
 use Rattle.eval_mask.specs.Agreement.{Agree}
 use Rattle.eval_mask.specs.Cases.{IsCase}
 use Rattle.eval_mask.specs.LatchMasks.{IsDecodedMasked, IsExecutedMasked, IsMasked, IsResultMasked, Latches, base_of, decoded_field, executed_field, is_in, reads_clock, result_field}
 use Rattle.eval_mask.specs.declared.completing.Aftermath.{Aftermath}
-use Rattle.eval_mask.specs.declared.latches.Case.{Case}
+use Rattle.eval_mask.specs.declared.cases.Case.{Case}
 use Rattle.eval_mask.proofs.Agreeing.{agree_told}
+use Rattle.eval_mask.proofs.Fields.{decoded_end, decoded_front, executed_end, written_end}
 
 kept_store : (kind : StoreKind) (x y : ℕ) (memory : ℕ → ℕ) (t : Bool)
     → (if t then stored kind x y memory else memory) ≡ stored_over (if t then Some (record { kind = kind; address = x; value = y }) else None) memory
@@ -41,7 +42,7 @@ told_if false x y f m s u a b = b
 
 pub outcome_told : (arch : ArchState) (w : ResultLatch) (m : ExecutedLatch) (d : DecodedLatch) (rd old npc x : ℕ)
     → Tells (aftermath_of arch.image w m d (state_of arch).memory npc x) (put_reg rd old (slice_index arch.registers)) (state_of arch).memory (outcome arch.image w m d (base_of arch rd old npc x))
-unfolding outcome aftermath_of completed change_of
+unfolding outcome aftermath_of doing_of doing_with left_by completed change_of
 outcome_told arch w m d rd old npc x =
     let image = arch.image in
     let before = (state_of arch).memory in
@@ -50,14 +51,8 @@ outcome_told arch w m d rd old npc x =
     let a = operand_held image (action_of m) w before d.rs1 d.a in
     let b = with_counter (op_of_latch d) 0 x (operand_held image (action_of m) w before d.rs2 d.b) in
     let done = action_in image (op_of_latch d) d.pc a b in
-    told_if (d.valid && (is_none (end_of (action_of m)) && d.pc == npc))
-    (record {
-      first = record { rd = w.rd; value = w.value };
-      below = change_of image (action_of m) before;
-      above = change_of image done (stored_over (store_by image (action_of m)) before);
-      pc = next_address (op_of_latch d) d.pc a b;
-      end = end_of done;
-    })
+    told_if (is_completed m d npc)
+    (left_by image (record { rd = w.rd; value = w.value }) (change_of image (action_of m) before) (doing_of image w m d before x) before)
     (record {
       first = record { rd = w.rd; value = w.value };
       below = change_of image (action_of m) before;
@@ -110,15 +105,6 @@ decoded_exactly needs arch w m d case k r is on field h =
     let same = rw (is.first, is.oldest) at h in
     (λ t. record { on_path = sym is.path ∙ on; field = field; masked = same.0 t }, λ s. same.1 s.masked)
 
-pub decoded_off : (needs : Needs) (arch : ArchState) (w : ResultLatch) (m : ExecutedLatch) (d : DecodedLatch) (case : Case) (k : ℕ)
-    → IsCase needs arch w m d case → case.on_path ≡ false
-    → IsTrue false ↔ IsDecodedMasked needs arch (record { w = w; m = m; d = d }) case.oldest.value case.npc case.issued k
-decoded_off needs arch w m d case k is off = (λ t. absurd (not_true t), λ s. absurd (no_both _ s.on_path (sym is.path ∙ off)))
-
-pub decoded_outside : (needs : Needs) (arch : ArchState) (l : Latches) (old npc x k : ℕ) → is_in decoded_field (decoded.field_of k) ≡ false
-    → IsTrue false ↔ IsDecodedMasked needs arch l old npc x k
-decoded_outside needs arch l old npc x k out = (λ t. absurd (not_true t), λ s. absurd (no_both _ s.field out))
-
 pub executed_exactly : (needs : Needs) (arch : ArchState) (w : ResultLatch) (m : ExecutedLatch) (d : DecodedLatch) (case : Case) (k : ℕ) (r : Bool)
     → IsCase needs arch w m d case → is_in executed_field (executed.field_of k) ≡ true
     → IsTrue r ↔ IsAskedOf needs arch case (record { w = w; m = m; d = d }) (record { w = w; m = executed.flipped m k; d = d })
@@ -126,10 +112,6 @@ pub executed_exactly : (needs : Needs) (arch : ArchState) (w : ResultLatch) (m :
 executed_exactly needs arch w m d case k r is field h =
     let same = rw (is.first, is.oldest) at h in
     (λ t. record { field = field; masked = same.0 t }, λ s. same.1 s.masked)
-
-pub executed_outside : (needs : Needs) (arch : ArchState) (l : Latches) (old npc x k : ℕ) → is_in executed_field (executed.field_of k) ≡ false
-    → IsTrue false ↔ IsExecutedMasked needs arch l old npc x k
-executed_outside needs arch l old npc x k out = (λ t. absurd (not_true t), λ s. absurd (no_both _ s.field out))
 
 pub written_exactly : (needs : Needs) (arch : ArchState) (w : ResultLatch) (m : ExecutedLatch) (d : DecodedLatch) (case : Case) (k : ℕ) (r : Bool)
     → IsCase needs arch w m d case → is_in result_field (result.field_of k) ≡ true
@@ -139,6 +121,21 @@ written_exactly needs arch w m d case k r is field h =
     let same = rw (is.first, is.oldest) at h in
     (λ t. record { field = field; masked = same.0 t }, λ s. same.1 s.masked)
 
-pub written_outside : (needs : Needs) (arch : ArchState) (l : Latches) (old npc x k : ℕ) → is_in result_field (result.field_of k) ≡ false
-    → IsTrue false ↔ IsResultMasked needs arch l old npc x k
-written_outside needs arch l old npc x k out = (λ t. absurd (not_true t), λ s. absurd (no_both _ s.field out))
+-- ---- bits of which none is masked
+
+pub off_path : (needs : Needs) (arch : ArchState) (w : ResultLatch) (m : ExecutedLatch) (d : DecodedLatch) (case : Case)
+    → IsCase needs arch w m d case → case.on_path ≡ false → (k : ℕ)
+    → IsDecodedMasked needs arch (record { w = w; m = m; d = d }) case.oldest.value case.npc case.issued k → ⊥
+off_path needs arch w m d case is off k s = no_both _ s.on_path (sym is.path ∙ off)
+
+pub decoded_before : (needs : Needs) (arch : ArchState) (l : Latches) (old npc x k : ℕ) → k < 31 → IsDecodedMasked needs arch l old npc x k → ⊥
+decoded_before needs arch l old npc x k h s = no_both _ s.field (decoded_front k h)
+
+pub decoded_after : (needs : Needs) (arch : ArchState) (l : Latches) (old npc x k : ℕ) → 148 ≤ k → IsDecodedMasked needs arch l old npc x k → ⊥
+decoded_after needs arch l old npc x k h s = no_both _ s.field (decoded_end k h)
+
+pub executed_after : (needs : Needs) (arch : ArchState) (l : Latches) (old npc x k : ℕ) → 75 ≤ k → IsExecutedMasked needs arch l old npc x k → ⊥
+executed_after needs arch l old npc x k h s = no_both _ s.field (executed_end k h)
+
+pub written_after : (needs : Needs) (arch : ArchState) (l : Latches) (old npc x k : ℕ) → 37 ≤ k → IsResultMasked needs arch l old npc x k → ⊥
+written_after needs arch l old npc x k h s = no_both _ s.field (written_end k h)

@@ -13,7 +13,7 @@ use Rattle.need_pass.specs.Tables.{Needs}
 use Rattle.eval_mask.specs.Agreement.{Agree}
 use Rattle.eval_mask.specs.Cases.{IsCase}
 use Rattle.eval_mask.specs.LatchMasks.{reads_clock}
-use Rattle.eval_mask.specs.declared.latches.Case.{Case}
+use Rattle.eval_mask.specs.declared.cases.Case.{Case}
 use Rattle.eval_mask.proofs.Masked.{IsAskedOf}
 use Rattle.std.specs.Prelude.{◌&&◌, if◌then◌else◌}
 

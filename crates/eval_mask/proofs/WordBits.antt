@@ -1,8 +1,21 @@
 -- The bits of an instruction word.
-use Rattle.std.proofs.Common.{◌≡◌, ◌↔◌, ℕ, ◌+◌, Bool, true, false, arith}
-use Rattle.std.specs.Prelude.{IsTrue, slice_index}
+use Rattle.std.proofs.Common.{◌≡◌, ◌↔◌, ℕ, ◌+◌, Bool, true, false, refl, sym, ◌∙◌, arith}
+use Rattle.std.specs.Prelude.{IsTrue, slice_index, Option, None, Some}
 use Rattle.std.proofs.lemmas.Nat.Bits.{bit_at-zero}
-use Rattle.rv_table.specs.Actions.{is_clocked}
+use Rattle.std.specs.Option.{is_some}
+use Rattle.std.proofs.lemmas.Option.{none-some}
+use Rattle.avf_base.specs.declared.end.End.{End}
+use Rattle.avf_base.specs.declared.end.End.TheVariants.{Trap}
+use Rattle.elf_load.specs.Image.{LoadedImage}
+use Rattle.rv_table.specs.Actions.{action, asked, asked_by, is_clocked, judged}
+use Rattle.rv_table.specs.Operations.{operation_of}
+use Rattle.rv_table.specs.Rows.{row_of}
+use Rattle.rv_table.specs.declared.op.Op.{Op}
+use Rattle.rv_table.specs.declared.op.TheConstants.{ILLEGAL_CODE}
+use Rattle.rv_table.specs.declared.operation.Operation.{Operation}
+use Rattle.rv_table.specs.declared.operation.Operation.TheVariants.{Illegal}
+use Rattle.rv_table.specs.declared.trap.TheConstants.{ILLEGAL_INSTRUCTION}
+use Rattle.rv_isa.specs.Instruction.{State, completed}
 use Rattle.rv_table.specs.Words.{decode}
 use Rattle.rv_isa.specs.Architecture.{ArchState, state_of}
 use Rattle.rv_isa.specs.Effects.{operated}
@@ -30,3 +43,28 @@ pub alike_exactly : (needs : Needs) (i : ℕ) (arch : ArchState) (word other : �
 alike_exactly needs i arch word other x y r u v s t h =
     let told = agree_told needs (i + 1) (slice_index arch.registers) (state_of arch).memory x y _ _ s t in
     (λ e. record { unread = u; was_unread = v; agree = told.0 (h.0 e) }, λ k. h.1 (told.1 k.agree))
+
+-- ---- a word outside the table
+
+illegal_operation : (code : ℕ) → code ≡ ILLEGAL_CODE → operation_of code ≡ Illegal
+unfolding operation_of row_of
+illegal_operation code e = rw e refl
+
+illegal_ends : (image : LoadedImage) (op : Op) (at : State) → op.code ≡ ILLEGAL_CODE → (operated image op at).stop ≡ Some (Trap ILLEGAL_INSTRUCTION)
+unfolding completed action judged asked asked_by
+illegal_ends image op at e = rw (illegal_operation op.code e) refl
+
+both_ways : (o : Option End) (end : End) → o ≡ Some end → o ≡ None → ⊥
+both_ways o end e f = none-some end (sym f ∙ e)
+
+pub not_some : (o : Option End) → is_some o ≡ false → o ≡ None
+not_some None e = refl
+not_some (Some end) e = absurd (grind arith)
+
+pub illegal_alone : (needs : Needs) (i : ℕ) (arch : ArchState) (word other : ℕ) (own : Aftermath) → (decode other).code ≡ ILLEGAL_CODE
+    → Tells own (slice_index arch.registers) (state_of arch).memory (operated arch.image (decode word) (state_of arch)) → own.end ≡ None
+    → IsTrue false ↔ IsAlikeWord needs i arch word other
+illegal_alone needs i arch word other own e told none = (
+  λ t. absurd (not_true t),
+  λ s. absurd (both_ways _ (Trap ILLEGAL_INSTRUCTION) (illegal_ends arch.image (decode other) (state_of arch) e) (s.agree.stop ∙ told.ends ∙ none)),
+)

@@ -1,11 +1,11 @@
 -- What completed instructions leave, told by what they change: the writes and stores that they make, one over the other.
-use Rattle.std.specs.Prelude.{ℕ, ◌/◌, ◌==◌, ◌&&◌, ◌≡◌, is_none, List, [], Option, Some, None, if◌then◌else◌}
+use Rattle.std.specs.Prelude.{ℕ, Bool, ◌/◌, ◌==◌, ◌&&◌, ◌≡◌, is_none, List, [], Option, Some, None, if◌then◌else◌}
 use Rattle.elf_load.specs.Image.{LoadedImage, word_in_ram}
 use Rattle.rv_table.specs.Accesses.{stored}
-use Rattle.rv_table.specs.Actions.{next_address, with_counter}
+use Rattle.rv_table.specs.Actions.{next_address, next_word, with_counter}
 use Rattle.rv_table.specs.Effects.{byte_put, written_register}
 use Rattle.rv_table.specs.declared.action.Action.{Action}
-use Rattle.rv_table.specs.declared.action.Action.TheVariants.{Stores}
+use Rattle.rv_table.specs.declared.action.Action.TheVariants.{Stores, Writes}
 use Rattle.rv_isa.specs.Instruction.{State, action_in, end_of, given, put_reg, with_byte}
 use Rattle.pipe_latch.specs.Latches.{DecodedLatch, ExecutedLatch, ResultLatch, op_of_latch}
 use Rattle.pipe_latch.specs.LatchedActions.{action_of}
@@ -13,6 +13,7 @@ use Rattle.cyc_machine.specs.InFlight.{operand_held}
 use Rattle.eval_mask.specs.declared.completing.Write.{Write}
 use Rattle.eval_mask.specs.declared.completing.Store.{Store}
 use Rattle.eval_mask.specs.declared.completing.Change.{Change}
+use Rattle.eval_mask.specs.declared.completing.Doing.{Doing}
 use Rattle.eval_mask.specs.declared.completing.Aftermath.{Aftermath}
 
 -- registers with a write, and memory with a store
@@ -28,11 +29,19 @@ abbrev pub store_by : LoadedImage → Action → Option Store
 store_by image (Stores kind x y) = if word_in_ram image (x / 4) then Some (record { kind = kind; address = x; value = y }) else None
 store_by image _ = None
 
+-- what an action writes, over memory before it
+abbrev pub write_by_action : LoadedImage → Action → (ℕ → ℕ) → Write
+write_by_action image done memory = record { rd = written_register done; value = given image done memory }
+
+-- the write that MEM/WB holds
+abbrev pub write_held : ResultLatch → Write
+write_held w = record { rd = w.rd; value = w.value }
+
 -- what an action changes, over this memory
 unfoldable pub change_of : LoadedImage → Action → (ℕ → ℕ) → Change
 change_of image done memory =
     record {
-      write = record { rd = written_register done; value = given image done memory };
+      write = write_by_action image done memory;
       store = store_by image done;
       put = byte_put done;
       end = end_of done;
@@ -41,29 +50,54 @@ change_of image done memory =
 abbrev pub no_change : Change
 no_change = record { write = record { rd = 0; value = 0 }; store = None; put = None; end = None }
 
+-- ID/EX is completed: it is occupied, at the address that comes next, and EX/MEM doesn't end the run
+abbrev pub is_completed : ExecutedLatch → DecodedLatch → ℕ → Bool
+is_completed m d npc = d.valid && (is_none (end_of (action_of m)) && d.pc == npc)
+
+-- what the instruction in ID/EX does with these operands, the second before a counter takes its place; x instructions come before it
+unfoldable pub doing_with : LoadedImage → DecodedLatch → ℕ → ℕ → ℕ → Doing
+doing_with image d x a held =
+    let b = with_counter (op_of_latch d) 0 x held in
+    record { action = action_in image (op_of_latch d) d.pc a b; next = next_address (op_of_latch d) d.pc a b }
+
+-- an operand that ID/EX holds, once EX/MEM has written this and MEM/WB what it holds
+abbrev pub operand_after : Write → ResultLatch → ℕ → ℕ → ℕ
+operand_after below w rs held =
+    if rs == 0 then held else (if rs == below.rd then below.value else (if rs == w.rd then w.value else held))
+
+-- a value is written into the register that ID/EX names, and the next instruction follows
+abbrev pub plain_doing : DecodedLatch → ℕ → Doing
+plain_doing d value = record { action = Writes d.rd value; next = next_word d.pc }
+
+-- what the instruction in ID/EX does, once EX/MEM has written this and MEM/WB what it holds
+abbrev pub doing_after : LoadedImage → ResultLatch → DecodedLatch → Write → ℕ → Doing
+doing_after image w d below x = doing_with image d x (operand_after below w d.rs1 d.a) (operand_after below w d.rs2 d.b)
+
+-- what the instruction in ID/EX does with what it holds, over memory before EX/MEM
+unfoldable pub doing_of : LoadedImage → ResultLatch → ExecutedLatch → DecodedLatch → (ℕ → ℕ) → ℕ → Doing
+doing_of image w m d memory x =
+    doing_with image d x (operand_held image (action_of m) w memory d.rs1 d.a) (operand_held image (action_of m) w memory d.rs2 d.b)
+
+-- what is left of MEM/WB's write, what EX/MEM changes, and what ID/EX does
+unfoldable pub left_by : LoadedImage → Write → Change → Doing → (ℕ → ℕ) → Aftermath
+left_by image first below doing memory =
+    record {
+      first = first;
+      below = below;
+      above = change_of image doing.action (stored_over below.store memory);
+      pc = doing.next;
+      end = end_of doing.action;
+    }
+
 -- what completing MEM/WB, EX/MEM and a reached ID/EX leaves, over this memory; npc is the address that comes next and x the
 -- number of instructions before it
 unfoldable pub aftermath_of : LoadedImage → ResultLatch → ExecutedLatch → DecodedLatch → (ℕ → ℕ) → ℕ → ℕ → Aftermath
 aftermath_of image w m d memory npc x =
+    let first = write_held w in
     let below = change_of image (action_of m) memory in
-    let a = operand_held image (action_of m) w memory d.rs1 d.a in
-    let b = with_counter (op_of_latch d) 0 x (operand_held image (action_of m) w memory d.rs2 d.b) in
-    let done = action_in image (op_of_latch d) d.pc a b in
-    if d.valid && (is_none (end_of (action_of m)) && d.pc == npc)
-    then record {
-      first = record { rd = w.rd; value = w.value };
-      below = below;
-      above = change_of image done (stored_over below.store memory);
-      pc = next_address (op_of_latch d) d.pc a b;
-      end = end_of done;
-    }
-    else record {
-      first = record { rd = w.rd; value = w.value };
-      below = below;
-      above = no_change;
-      pc = npc;
-      end = end_of (action_of m);
-    }
+    if is_completed m d npc
+    then left_by image first below (doing_of image w m d memory x) memory
+    else record { first = first; below = below; above = no_change; pc = npc; end = end_of (action_of m) }
 
 abbrev pub registers_after : Aftermath → (ℕ → ℕ) → ℕ → ℕ
 registers_after left registers = written left.above.write (written left.below.write (written left.first registers))

@@ -1,11 +1,23 @@
 -- Registers, memories and aftermaths that are the same where it is needed.
-use Rattle.std.specs.Prelude.{◌≡◌, ℕ, ◌+◌, ◌<◌, ◌≤◌, ◌^◌, Bool, true, false, Option, Some, None}
+use Rattle.std.specs.Prelude.{◌≡◌, ◌⊎◌, ℕ, ◌+◌, ◌<◌, ◌≤◌, ◌^◌, ◌&&◌, Bool, true, false, nat_lt, Option, Some, None, if◌then◌else◌}
 use Rattle.std.specs.Int.{bit_at}
 use Rattle.rv_table.specs.Accesses.{accesses, store_size}
 use Rattle.need_pass.specs.Tables.{Needs, byte_need, reg_need}
 use Rattle.eval_mask.specs.Aftermaths.{memory_after, registers_after}
+use Rattle.eval_mask.specs.declared.compare.Known.{Known}
 use Rattle.eval_mask.specs.declared.completing.Aftermath.{Aftermath}
 use Rattle.eval_mask.specs.declared.completing.Store.{Store}
+use Rattle.eval_mask.specs.declared.completing.Write.{Write}
+
+-- the needed bits of register r before instruction j; none of a number that names none
+abbrev pub need_at : Needs → ℕ → ℕ → ℕ
+need_at needs r j = if nat_lt 0 r && nat_lt r 32 then reg_need needs r j else 0
+
+-- the masks are the needs of those registers
+pub record IsKnown (needs : Needs) (j : ℕ) (known : Known) : Type 0 where
+  pub first : known.first.mask ≡ need_at needs known.first.r j
+  pub below : known.below.mask ≡ need_at needs known.below.r j
+  pub above : known.above.mask ≡ need_at needs known.above.r j
 
 -- two numbers have the same bits, of n, where a mask has one
 pub record SameWhere (n mask a b : ℕ) : Type 0 where
@@ -37,6 +49,14 @@ covers (Some store) p = accesses (store_size store.kind) store.address p
 -- the bytes of a store are the same where they are needed
 pub record SameCovered (needs : Needs) (j : ℕ) (f g : ℕ → ℕ) (store : Option Store) : Type 0 where
   pub same : (p : ℕ) → covers store p ≡ true → SameByte needs j f g p
+
+-- two writes, one under either registers, are the same, or the registers that they write are the same where they are needed
+pub record SameWritten (needs : Needs) (j : ℕ) (f g : ℕ → ℕ) (a b : Write) : Type 0 where
+  pub same : (a ≡ b) ⊎ (SameRegister needs j f g a.rd × SameRegister needs j f g b.rd)
+
+-- two stores likewise
+pub record SameStored (needs : Needs) (j : ℕ) (f g : ℕ → ℕ) (a b : Option Store) : Type 0 where
+  pub same : (a ≡ b) ⊎ (SameCovered needs j f g a × SameCovered needs j f g b)
 
 -- two aftermaths of the same registers and memory go on alike
 pub record SameNext (needs : Needs) (j : ℕ) (registers memory : ℕ → ℕ) (left other : Aftermath) : Type 0 where

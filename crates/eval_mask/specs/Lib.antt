@@ -5,4 +5,5 @@ pub mod Compared
 pub mod Effects
 pub mod LatchMasks
 pub mod Seems
+pub mod Unread
 pub mod WordMasks

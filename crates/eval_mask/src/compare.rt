@@ -4,7 +4,8 @@ ghost use Rattle.need_pass.specs.Tables.{byte_need, reg_need};
 ghost use Rattle.rv_isa.specs.Architecture.{state_of};
 ghost use Rattle.eval_mask.specs.Aftermaths.{memory_after, output_after, registers_after, state_after, written};
 ghost use Rattle.eval_mask.specs.Agreement.{Agree};
-ghost use Rattle.eval_mask.specs.Compared.{SameByte, SameBytes, SameCovered, SameNext, SameRegister, SameRegisters, SameRun, SameWhere, first_of, second_of};
+ghost use Rattle.eval_mask.specs.Compared as spec;
+ghost use Rattle.eval_mask.specs.Compared.{IsKnown, SameByte, SameBytes, SameCovered, SameNext, SameRegister, SameRegisters, SameRun, SameStored, SameWhere, SameWritten, first_of, second_of};
 
 use crate::completing::{Aftermath, Store, Write, register_over};
 use avf_base::End;
@@ -12,7 +13,23 @@ use need_pass::NeedTable;
 use rv_isa::Arch;
 use rv_table::StoreKind;
 
-fn same_word(mask: u32, a: u32, b: u32) -> bool
+/// The needed bits of a register.
+#[derive(Clone, Copy)]
+pub struct RegisterNeed {
+    pub r: u8,
+    pub mask: u32,
+}
+
+/// The needs of the registers that MEM/WB, EX/MEM and ID/EX write.
+#[derive(Clone, Copy)]
+pub struct Known {
+    pub first: RegisterNeed,
+    pub below: RegisterNeed,
+    pub above: RegisterNeed,
+}
+
+/// Whether two words are the same in the bits of a mask.
+pub fn same_word(mask: u32, a: u32, b: u32) -> bool
     ensures { IsTrue result ↔ SameWhere 32 mask a b }
 {
     mask & (a ^ b) == 0
@@ -24,15 +41,73 @@ fn same_bits(mask: u8, a: u8, b: u8) -> bool
     mask & (a ^ b) == 0
 }
 
-/// Whether two values of register `r` are the same where it is needed. Need is looked up only where they differ.
-#[tactic(auto, using(crate::proofs::Differences::same_all))]
-fn same_values(needs: &NeedTable, at: u32, r: u8, a: u32, b: u32) -> bool
+/// The needed bits of register `r`, none of a number that names none.
+fn need_at(needs: &NeedTable, r: u8, at: u32) -> u32
+    requires { at ≤ needs.now.count }
+    ensures { result ≡ spec.need_at needs.now r at }
+{
+    if 0 < r && r < 32 {
+        needs.reg_need(r, at)
+    } else {
+        0
+    }
+}
+
+fn look_up(needs: &NeedTable, r: u8, at: u32) -> RegisterNeed
+    requires { at ≤ needs.now.count }
+    ensures register { result.r ≡ r }
+    ensures mask { result.mask ≡ spec.need_at needs.now r at }
+{
+    RegisterNeed {
+        r,
+        mask: need_at(needs, r, at),
+    }
+}
+
+/// The needs, before instruction `at`, of the registers that are written.
+pub fn known_needs(needs: &NeedTable, at: u32, left: &Aftermath) -> Known
+    requires { at ≤ needs.now.count }
+    ensures known { IsKnown needs.now at result }
+    ensures above { result.above.mask ≡ spec.need_at needs.now left.now.above.write.rd at }
+{
+    Known {
+        first: look_up(needs, left.first.rd, at),
+        below: look_up(needs, left.below.write.rd, at),
+        above: look_up(needs, left.above.write.rd, at),
+    }
+}
+
+/// The needed bits of register `r`, looked up only where they aren't known.
+#[tactic(auto, using(crate::proofs::Differences::known_mask))]
+fn reg_need(needs: &NeedTable, at: u32, known: &Known, r: u8) -> u32
     requires above { 0 < r }
     requires below { r < 32 }
     requires at { at ≤ needs.now.count }
+    requires known { IsKnown needs.now at known.now }
+    ensures { result ≡ reg_need needs.now r at }
+{
+    if r == known.above.r {
+        return known.above.mask;
+    }
+    if r == known.below.r {
+        return known.below.mask;
+    }
+    if r == known.first.r {
+        return known.first.mask;
+    }
+    needs.reg_need(r, at)
+}
+
+/// Whether two values of register `r` are the same where it is needed. Need is asked only where they differ.
+#[tactic(auto, using(crate::proofs::Differences::same_all))]
+fn same_values(needs: &NeedTable, at: u32, known: &Known, r: u8, a: u32, b: u32) -> bool
+    requires above { 0 < r }
+    requires below { r < 32 }
+    requires at { at ≤ needs.now.count }
+    requires known { IsKnown needs.now at known.now }
     ensures { IsTrue result ↔ SameWhere 32 (reg_need needs.now r at) a b }
 {
-    a == b || same_word(needs.reg_need(r, at), a, b)
+    a == b || same_word(reg_need(needs, at, known, r), a, b)
 }
 
 /// Whether two values of the byte at a byte address are the same where it is needed.
@@ -50,11 +125,13 @@ fn same_register(
     oldest: &Write,
     needs: &NeedTable,
     at: u32,
+    known: &Known,
     left: &Aftermath,
     other: &Aftermath,
     r: u8,
 ) -> bool
-    requires { at ≤ needs.now.count }
+    requires at { at ≤ needs.now.count }
+    requires known { IsKnown needs.now at known.now }
     ensures { IsTrue result ↔ SameRegister needs.now at (registers_after left.now (written oldest.now (slice_index arch.now.registers))) (registers_after other.now (written oldest.now (slice_index arch.now.registers))) r }
 {
     if r == 0 || r > 31 {
@@ -64,31 +141,88 @@ fn same_register(
     same_values(
         needs,
         at,
+        known,
         r,
         left.register(r, before),
         other.register(r, before),
     )
 }
 
-/// Whether all registers are the same where they are needed. Only a register that is written can differ.
+fn same_write(a: &Write, b: &Write) -> bool
+    ensures { IsTrue result ↔ (a.now ≡ b.now) }
+{
+    *a == *b
+}
+
+/// Whether two writes, one of each aftermath, are the same, or the registers that they write are the same where they are needed.
+#[tactic(auto, using(crate::proofs::Differences::registers_told))]
+fn same_written(
+    arch: &Arch<'_>,
+    oldest: &Write,
+    needs: &NeedTable,
+    at: u32,
+    known: &Known,
+    left: &Aftermath,
+    other: &Aftermath,
+    a: &Write,
+    b: &Write,
+) -> bool
+    requires at { at ≤ needs.now.count }
+    requires known { IsKnown needs.now at known.now }
+    ensures same { IsTrue result → SameWritten needs.now at (registers_after left.now (written oldest.now (slice_index arch.now.registers))) (registers_after other.now (written oldest.now (slice_index arch.now.registers))) a.now b.now }
+    ensures all { SameRegisters needs.now at (registers_after left.now (written oldest.now (slice_index arch.now.registers))) (registers_after other.now (written oldest.now (slice_index arch.now.registers))) → IsTrue result }
+{
+    same_write(a, b)
+        || same_register(arch, oldest, needs, at, known, left, other, a.rd)
+            && same_register(arch, oldest, needs, at, known, left, other, b.rd)
+}
+
+/// Whether all registers are the same where they are needed. Only a register that is written differently can differ.
 #[tactic(auto, using(crate::proofs::Differences::all_registers))]
 fn same_registers(
     arch: &Arch<'_>,
     oldest: &Write,
     needs: &NeedTable,
     at: u32,
+    known: &Known,
     left: &Aftermath,
     other: &Aftermath,
 ) -> bool
-    requires { at ≤ needs.now.count }
+    requires at { at ≤ needs.now.count }
+    requires known { IsKnown needs.now at known.now }
     ensures { IsTrue result ↔ SameRegisters needs.now at (registers_after left.now (written oldest.now (slice_index arch.now.registers))) (registers_after other.now (written oldest.now (slice_index arch.now.registers))) }
 {
-    same_register(arch, oldest, needs, at, left, other, left.first.rd)
-        && same_register(arch, oldest, needs, at, left, other, left.below.write.rd)
-        && same_register(arch, oldest, needs, at, left, other, left.above.write.rd)
-        && same_register(arch, oldest, needs, at, left, other, other.first.rd)
-        && same_register(arch, oldest, needs, at, left, other, other.below.write.rd)
-        && same_register(arch, oldest, needs, at, left, other, other.above.write.rd)
+    same_written(
+        arch,
+        oldest,
+        needs,
+        at,
+        known,
+        left,
+        other,
+        &left.above.write,
+        &other.above.write,
+    ) && same_written(
+        arch,
+        oldest,
+        needs,
+        at,
+        known,
+        left,
+        other,
+        &left.below.write,
+        &other.below.write,
+    ) && same_written(
+        arch,
+        oldest,
+        needs,
+        at,
+        known,
+        left,
+        other,
+        &left.first,
+        &other.first,
+    )
 }
 
 /// Whether the byte at a byte address is the same where it is needed.
@@ -184,7 +318,34 @@ fn same_covered(
     }
 }
 
-/// Whether all bytes are the same where they are needed. Only a byte that is stored can differ.
+/// Whether two stores, or none, are the same.
+pub fn same_store(a: &Option<Store>, b: &Option<Store>) -> bool
+    ensures { IsTrue result ↔ (a.now ≡ b.now) }
+{
+    *a == *b
+}
+
+/// Whether two stores, one of each aftermath, are the same, or the bytes that they write are the same where they are needed.
+#[tactic(auto, using(crate::proofs::Differences::bytes_told))]
+fn same_overwritten(
+    arch: &Arch<'_>,
+    needs: &NeedTable,
+    at: u32,
+    left: &Aftermath,
+    other: &Aftermath,
+    a: &Option<Store>,
+    b: &Option<Store>,
+) -> bool
+    requires { at ≤ needs.now.count }
+    ensures same { IsTrue result → SameStored needs.now at (memory_after left.now (state_of arch.now).memory) (memory_after other.now (state_of arch.now).memory) a.now b.now }
+    ensures all { SameBytes needs.now at (memory_after left.now (state_of arch.now).memory) (memory_after other.now (state_of arch.now).memory) → IsTrue result }
+{
+    same_store(a, b)
+        || same_covered(arch, needs, at, left, other, a)
+            && same_covered(arch, needs, at, left, other, b)
+}
+
+/// Whether all bytes are the same where they are needed. Only a byte that is stored differently can differ.
 #[tactic(auto, using(crate::proofs::Differences::all_bytes))]
 fn same_bytes(
     arch: &Arch<'_>,
@@ -196,10 +357,23 @@ fn same_bytes(
     requires { at ≤ needs.now.count }
     ensures { IsTrue result ↔ SameBytes needs.now at (memory_after left.now (state_of arch.now).memory) (memory_after other.now (state_of arch.now).memory) }
 {
-    same_covered(arch, needs, at, left, other, &left.below.store)
-        && same_covered(arch, needs, at, left, other, &left.above.store)
-        && same_covered(arch, needs, at, left, other, &other.below.store)
-        && same_covered(arch, needs, at, left, other, &other.above.store)
+    same_overwritten(
+        arch,
+        needs,
+        at,
+        left,
+        other,
+        &left.below.store,
+        &other.below.store,
+    ) && same_overwritten(
+        arch,
+        needs,
+        at,
+        left,
+        other,
+        &left.above.store,
+        &other.above.store,
+    )
 }
 
 fn same_end(a: Option<End>, b: Option<End>) -> bool
@@ -248,14 +422,16 @@ fn same_next(
     oldest: &Write,
     needs: &NeedTable,
     at: u32,
+    known: &Known,
     left: &Aftermath,
     other: &Aftermath,
 ) -> bool
-    requires { at ≤ needs.now.count }
+    requires at { at ≤ needs.now.count }
+    requires known { IsKnown needs.now at known.now }
     ensures { IsTrue result ↔ SameNext needs.now at (written oldest.now (slice_index arch.now.registers)) (state_of arch.now).memory left.now other.now }
 {
     left.pc == other.pc
-        && same_registers(arch, oldest, needs, at, left, other)
+        && same_registers(arch, oldest, needs, at, known, left, other)
         && same_bytes(arch, needs, at, left, other)
 }
 
@@ -267,14 +443,16 @@ pub fn agree(
     oldest: &Write,
     needs: &NeedTable,
     at: u32,
+    known: &Known,
     left: &Aftermath,
     other: &Aftermath,
 ) -> bool
-    requires { at ≤ needs.now.count }
+    requires at { at ≤ needs.now.count }
+    requires known { IsKnown needs.now at known.now }
     ensures { IsTrue result ↔ Agree needs.now at (state_after left.now (written oldest.now (slice_index arch.now.registers)) (state_of arch.now).memory) (state_after other.now (written oldest.now (slice_index arch.now.registers)) (state_of arch.now).memory) }
 {
     if !same_output(left, other) || !same_end(left.end, other.end) {
         return false;
     }
-    left.end.is_some() || same_next(arch, oldest, needs, at, left, other)
+    left.end.is_some() || same_next(arch, oldest, needs, at, known, left, other)
 }

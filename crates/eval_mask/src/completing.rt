@@ -2,21 +2,23 @@
 ghost use Rattle.std.specs.Prelude.{◌≡◌, ℕ, ◌<◌};
 ghost use Rattle.rv_table.specs.Accesses as accesses;
 ghost use Rattle.rv_table.specs.Actions.{next_address};
-ghost use Rattle.rv_table.specs.Effects as effects;
+ghost use Rattle.rv_table.specs.Arithmetic.{alu};
 ghost use Rattle.rv_isa.specs.Architecture.{state_of};
 ghost use Rattle.rv_isa.specs.Instruction as step;
 ghost use Rattle.rv_isa.specs.Instruction.{action_in};
-ghost use Rattle.pipe_latch.specs.Forwarding as forwarding;
 ghost use Rattle.pipe_latch.specs.LatchedActions.{action_of};
-ghost use Rattle.pipe_latch.specs.Latches.{op_of_latch};
+ghost use Rattle.pipe_latch.specs.Latches.{ExecutedLatch, op_of_latch};
 ghost use Rattle.eval_mask.specs.Aftermaths as spec;
 ghost use Rattle.eval_mask.specs.Aftermaths.{memory_after, registers_after, stored_over, written};
 
 use avf_base::End;
 use elf_load::Image;
-use pipe_latch::{ExMem, Forwarded, IdEx, MemWb, execute, operand};
-use rv_isa::Arch;
-use rv_table::{Action, LoadKind, StoreKind, loaded, with_counter};
+use pipe_latch::{ExMem, IdEx, MemWb, execute};
+use rv_isa::{Arch, byte_put, end_of, written_register};
+use rv_table::{
+    Action, AluKind, LoadKind, Operation, StoreKind, alu, asked, loaded, next_address,
+    operation_of, with_counter,
+};
 
 /// A write of a register; register 0 is none.
 #[derive(Clone, Copy, PartialEq, Eq, Debug)]
@@ -41,6 +43,13 @@ pub struct Change {
     /// The byte that it puts.
     pub put: Option<u8>,
     pub end: Option<End>,
+}
+
+/// What the instruction in ID/EX does, and the word address that comes after it.
+#[derive(Clone, Copy, PartialEq, Eq, Debug)]
+pub struct Doing {
+    pub action: Action,
+    pub next: u32,
 }
 
 /// What completed instructions leave.
@@ -160,15 +169,6 @@ fn given(arch: &Arch<'_>, under: &Option<Store>, action: &Action) -> u32
     }
 }
 
-fn written_register(action: &Action) -> u8
-    ensures { result ≡ effects.written_register action.now }
-{
-    match *action {
-        Action::Writes { rd, .. } | Action::Loads { rd, .. } => rd,
-        _ => 0,
-    }
-}
-
 /// The store that an action makes; one outside RAM is dropped.
 fn store_by(image: &Image, action: &Action) -> Option<Store>
     ensures { result ≡ spec.store_by image.now action.now }
@@ -187,31 +187,18 @@ fn store_by(image: &Image, action: &Action) -> Option<Store>
     }
 }
 
-fn byte_put(action: &Action) -> Option<u8>
-    ensures { result ≡ effects.byte_put action.now }
+/// What EX/MEM changes over the memory of `arch`, if it does this.
+pub fn action_change(arch: &Arch<'_>, action: &Action) -> Change
+    ensures { result ≡ spec.change_of arch.now.image action.now (state_of arch.now).memory }
 {
-    match *action {
-        Action::Puts(value) => Some((value % 256) as u8),
-        _ => None,
-    }
-}
-
-/// How an action ends the run.
-pub fn end_of(action: &Action) -> Option<End>
-    ensures { result ≡ step.end_of action.now }
-{
-    match *action {
-        Action::Exits(value) => Some(End::Exit((value % 256) as u8)),
-        Action::Traps(cause) => Some(End::Trap(cause)),
-        _ => None,
-    }
+    change_of(arch, &None, action)
 }
 
 /// What EX/MEM changes over the memory of `arch`.
 pub fn executed_change(arch: &Arch<'_>, m: &ExMem) -> Change
     ensures { result ≡ spec.change_of arch.now.image (action_of m.now) (state_of arch.now).memory }
 {
-    change_of(arch, &None, &m.action())
+    action_change(arch, &m.action())
 }
 
 /// What an action changes, over the memory of `arch` after a store.
@@ -230,30 +217,131 @@ fn change_of(arch: &Arch<'_>, under: &Option<Store>, action: &Action) -> Change
     }
 }
 
-/// An operand that ID/EX holds, with what completing EX/MEM writes where it must be waited for.
-fn operand_held(rs: u8, held: u32, m: &ExMem, w: &MemWb, awaited: u32) -> u32
-    ensures { result ≡ forwarding.settled (forwarding.operand (action_of m.now) w.now rs held) awaited }
+/// An operand that ID/EX holds, once EX/MEM has written `below` and MEM/WB what it holds: EX/MEM is younger, and register 0 is
+/// never forwarded.
+pub fn operand_after(below: &Write, w: &MemWb, rs: u8, held: u32) -> u32
+    ensures { result ≡ spec.operand_after below.now w.now rs held }
 {
-    match operand(rs, held, m, w) {
-        Forwarded::Value(value) => value,
-        Forwarded::Wait => awaited,
+    if rs == 0 {
+        held
+    } else if rs == below.rd {
+        below.value
+    } else if rs == w.rd {
+        w.value
+    } else {
+        held
     }
 }
 
 /// What the instruction in ID/EX does with the operands a and b.
-#[tactic(auto, using(crate::proofs::Completed::executed_action))]
+#[tactic(auto, using(crate::proofs::Completed::executed_action), unfolding(rv_table::specs::Actions::action, rv_table::specs::Actions::judged, rv_table::specs::Actions::judged_by))]
 fn decoded_action(d: &IdEx, a: u32, b: u32, image: &Image) -> Action
     ensures { result ≡ action_in image.now (op_of_latch d.now) d.now.pc a b }
 {
-    execute(d, a, b, image).latch.action()
+    let action = asked(&d.instruction(), d.pc, a, b);
+    match action {
+        Action::Loads { address, .. } => action.judged(image.word_in_ram(address / 4), false),
+        Action::Stores { .. } => execute(d, a, b, image).latch.action(),
+        _ => action,
+    }
 }
 
 /// The word address that comes after the instruction in ID/EX.
-#[tactic(auto, unfolding(pipe_latch::specs::Execution::next_of))]
-fn decoded_next(d: &IdEx, a: u32, b: u32, image: &Image) -> u32
+fn decoded_next(d: &IdEx, a: u32, b: u32) -> u32
     ensures { result ≡ next_address (op_of_latch d.now) d.now.pc a b }
 {
-    execute(d, a, b, image).next
+    next_address(&d.instruction(), d.pc, a, b)
+}
+
+/// The write that MEM/WB holds.
+pub fn write_held(w: &MemWb) -> Write
+    ensures { result ≡ spec.write_held w.now }
+{
+    Write {
+        rd: w.rd,
+        value: w.value,
+    }
+}
+
+/// Whether ID/EX is completed: it is occupied, at the word address that comes next, and what EX/MEM does doesn't end the run.
+pub fn is_completed(m: &ExMem, d: &IdEx, npc: u32) -> bool
+    ensures { result ≡ spec.is_completed m.now d.now npc }
+{
+    d.valid && (end_of(&m.action()).is_none() && d.pc == npc)
+}
+
+/// What the instruction in ID/EX does with operands a and `held`, the second before a counter takes its place. `issued` is the number
+/// of instructions before it.
+#[tactic(auto, unfolding(crate::specs::Aftermaths::doing_with))]
+fn any_doing(d: &IdEx, a: u32, held: u32, issued: u32, image: &Image) -> Doing
+    ensures { result ≡ spec.doing_with image.now d.now issued a held }
+{
+    let b = with_counter(&d.instruction(), 0, issued, held);
+    Doing {
+        action: decoded_action(d, a, b, image),
+        next: decoded_next(d, a, b),
+    }
+}
+
+/// Writes a value into the register that ID/EX names and goes on.
+fn plain_doing(d: &IdEx, value: u32) -> Doing
+    ensures { result ≡ spec.plain_doing d.now value }
+{
+    Doing {
+        action: Action::Writes { rd: d.rd, value },
+        next: (d.pc + 1) % 0x4000_0000,
+    }
+}
+
+/// The same with the result of the immediate and operand a.
+fn immediate_doing(d: &IdEx, kind: AluKind, a: u32) -> Doing
+    ensures { result ≡ spec.plain_doing d.now (alu kind a d.now.imm) }
+{
+    plain_doing(d, alu(kind, a, d.imm))
+}
+
+/// The same as `any_doing`, quickly for most instructions.
+#[tactic(auto, using(crate::proofs::Completed::plain_doings))]
+fn doing_with(d: &IdEx, a: u32, held: u32, issued: u32, image: &Image) -> Doing
+    ensures { result ≡ spec.doing_with image.now d.now issued a held }
+{
+    match operation_of(d.op) {
+        Operation::Lui => plain_doing(d, d.imm),
+        Operation::AluImmediate(kind) => immediate_doing(d, kind, a),
+        Operation::Alu(kind) => plain_doing(d, alu(kind, a, held)),
+        _ => any_doing(d, a, held, issued, image),
+    }
+}
+
+/// What the instruction in ID/EX does, once EX/MEM has written `below` and MEM/WB what it holds. `issued` is the number of
+/// instructions before it.
+fn doing_after(w: &MemWb, d: &IdEx, below: &Write, issued: u32, image: &Image) -> Doing
+    ensures { result ≡ spec.doing_after image.now w.now d.now below.now issued }
+{
+    let a = operand_after(below, w, d.rs1, d.a);
+    let held = operand_after(below, w, d.rs2, d.b);
+    doing_with(d, a, held, issued, image)
+}
+
+/// The same, where `below` is what EX/MEM writes.
+pub fn doing_of(w: &MemWb, d: &IdEx, below: &Write, issued: u32, image: &Image) -> Doing
+    ensures { (m : ExecutedLatch) → (memory : ℕ → ℕ) → below.now ≡ spec.write_by_action image.now (action_of m) memory → result ≡ spec.doing_of image.now w.now m d.now memory issued }
+{
+    doing_after(w, d, below, issued, image)
+}
+
+/// What is left of MEM/WB's write, what EX/MEM changes, and what ID/EX does, over the memory of `arch`.
+#[tactic(auto, unfolding(crate::specs::Aftermaths::left_by))]
+pub fn left_by(arch: &Arch<'_>, first: &Write, below: &Change, doing: &Doing) -> Aftermath
+    ensures { result ≡ spec.left_by arch.now.image first.now below.now doing.now (state_of arch.now).memory }
+{
+    Aftermath {
+        first: *first,
+        below: *below,
+        above: change_of(arch, &below.store, &doing.action),
+        pc: doing.next,
+        end: end_of(&doing.action),
+    }
 }
 
 /// What MEM/WB, EX/MEM and a reached ID/EX leave once they are completed over the memory of `arch`. `npc` is the word address that
@@ -271,29 +359,16 @@ pub fn completed(
     requires { below.now ≡ spec.change_of arch.now.image (action_of m.now) (state_of arch.now).memory }
     ensures { result ≡ spec.aftermath_of arch.now.image w.now m.now d.now (state_of arch.now).memory npc issued }
 {
-    let first = Write {
-        rd: w.rd,
-        value: w.value,
-    };
-    let below = *below;
-    if !(d.valid && below.end.is_none() && d.pc == npc) {
-        return Aftermath {
-            first,
-            below,
-            above: NO_CHANGE,
-            pc: npc,
-            end: below.end,
-        };
+    let first = write_held(w);
+    if is_completed(m, d, npc) {
+        let doing = doing_of(w, d, &below.write, issued, arch.image());
+        return left_by(arch, &first, below, &doing);
     }
-    let a = operand_held(d.rs1, d.a, m, w, below.write.value);
-    let held = operand_held(d.rs2, d.b, m, w, below.write.value);
-    let b = with_counter(&d.instruction(), 0, issued, held);
-    let action = decoded_action(d, a, b, arch.image());
     Aftermath {
         first,
-        below,
-        above: change_of(arch, &below.store, &action),
-        pc: decoded_next(d, a, b, arch.image()),
-        end: end_of(&action),
+        below: *below,
+        above: NO_CHANGE,
+        pc: npc,
+        end: below.end,
     }
 }

@@ -2,13 +2,19 @@
 //
 // - completing: what the latches leave once they are completed, told by what they change;
 // - compare: whether two such aftermaths agree where it is needed;
+// - cases: what the latches leave as they are, worked out once, and whether flipped ones leave the same;
+// - unread: which fields of ID/EX the instruction doesn't read;
+// - decoded: the masks of ID/EX;
 // - latches: the masks of the latches;
 // - words: the mask of an instruction word.
 #![tactic(auto)]
 
+mod cases;
 mod compare;
 mod completing;
+mod decoded;
 mod latches;
+mod unread;
 mod words;
 
 pub use latches::{LatchMask, latch_bits};

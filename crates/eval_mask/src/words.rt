@@ -6,15 +6,16 @@ ghost use Rattle.rv_table.specs.Words as words;
 ghost use Rattle.rv_isa.specs.Architecture.{state_of};
 ghost use Rattle.rv_isa.specs.Effects.{operated};
 ghost use Rattle.eval_mask.specs.Aftermaths.{Tells};
+ghost use Rattle.eval_mask.specs.Compared.{IsKnown};
 ghost use Rattle.eval_mask.specs.Effects as spec;
 ghost use Rattle.eval_mask.specs.WordMasks.{IsAlikeWord, IsWordMask};
 
-use crate::compare::agree;
+use crate::compare::{Known, agree, known_needs};
 use crate::completing::{Aftermath, Change, NO_CHANGE, NO_WRITE, Store, Write};
 use avf_base::Steps;
 use need_pass::NeedTable;
 use rv_isa::{Arch, Effect};
-use rv_table::{Op, StoreKind, decode, is_clocked};
+use rv_table::{ILLEGAL_CODE, Op, StoreKind, decode, is_clocked};
 use std::sync::ledger::Ledger;
 
 fn write_of(write: Option<(u8, u32)>) -> Write
@@ -90,11 +91,13 @@ fn is_alike<L: Ledger>(
     other: u32,
     i: u32,
     needs: &NeedTable,
+    known: &Known,
     applies: &mut Steps<L>,
 ) -> bool
     requires instruction { i < needs.now.count }
     requires unread { is_clocked (words.decode word) ≡ false }
     requires own { Tells own.now (slice_index arch.now.registers) (state_of arch.now).memory (operated arch.now.image (words.decode word) (state_of arch.now)) }
+    requires known { IsKnown needs.now (i + 1) known.now }
     ensures alike { IsTrue result ↔ IsAlikeWord needs.now i arch.now word other }
     ensures ticks { applies.new ≤ applies.old + 1 }
 {
@@ -102,10 +105,13 @@ fn is_alike<L: Ledger>(
     if is_clocked(&op) {
         return false;
     }
+    if op.code == ILLEGAL_CODE && own.end.is_none() {
+        return false;
+    }
     let flipped = operate(arch, &op, applies);
     // the run's length is a u32, so i + 1 is one
     let _ = needs.len();
-    agree(arch, &NO_WRITE, needs, i + 1, &flipped, own)
+    agree(arch, &NO_WRITE, needs, i + 1, known, &flipped, own)
 }
 
 /// The mask of a word that doesn't read the cycle counter and leaves `own`.
@@ -123,9 +129,12 @@ fn bits_alike<L: Ledger>(
     ensures mask { IsWordMask needs.now i arch.now word result }
     ensures ticks { applies.new ≤ applies.old + 32 }
 {
+    // the run's length is a u32, so i + 1 is one
+    let _ = needs.len();
+    let known = known_needs(needs, i + 1, own);
     let mut mask = 0;
     for k in 0..32u32 {
-        if is_alike(arch, word, own, word ^ (1 << k), i, needs, applies) {
+        if is_alike(arch, word, own, word ^ (1 << k), i, needs, &known, applies) {
             mask |= 1 << k;
         }
     }

@@ -1,4 +1,13 @@
 pub mod Accepted
 pub mod Bodies
+pub mod Coded
+pub mod Counted
+pub mod Ending
 pub mod Fitting
+pub mod Loading
+pub mod Moves
+pub mod Placed
+pub mod Quiet
+pub mod RandomWords
+pub mod Rounds
 pub mod Sizes

@@ -4,7 +4,7 @@ ghost use Rattle.std.specs.List.{flat_map};
 ghost use Rattle.rand_core.specs.Steps.{first_words};
 ghost use Rattle.rand_pcg.specs.Pcg.{pcg32};
 ghost use Rattle.elf_write.specs.Code.{op_bytes};
-ghost use Rattle.img_gen.specs.Laws.{IsAccepted};
+ghost use Rattle.img_gen.specs.Laws.{IsAccepted, RunsFourRounds};
 ghost use Rattle.img_gen.specs.Program.{body_op, generated, is_bad_size, program};
 ghost use Rattle.rv_table.specs.WellFormed.{well_formed};
 
@@ -61,6 +61,7 @@ fn text_part(alloc: Global, number: u64, size: u32) -> Result<Vec<u8>, AllocErro
 pub fn generate(alloc: Global, number: u64, size: u32) -> Result<Vec<u8>, GenError>
     ensures file { IfOk result (λ v. v.items ≡ generated number size) }
     ensures accepted { OnOk result (IsAccepted number size) }
+    ensures runs { OnOk result (RunsFourRounds number size) }
     ensures bad_size { (result ≡ Err GenError.BadSize) ↔ IsTrue (is_bad_size size) }
 {
     if size == 0 || size > MAX_SIZE {

@@ -1,2 +1,3 @@
+mod Ending
 pub mod Keeping
 pub mod Programs

@@ -1,11 +1,13 @@
 // Recording a run.
-ghost use Rattle.std.specs.Prelude.{◌≡◌, ◌+◌, ◌-◌, ◌*◌, ◌<◌, ◌≤◌, ◌^◌, false, length, IfOk, OnErr, OnOk};
+ghost use Rattle.std.specs.Prelude.{◌≡◌, ◌+◌, ◌-◌, ◌*◌, ◌<◌, ◌≤◌, ◌^◌, Some, false, length, IfOk, OnErr, OnOk};
 ghost use Rattle.bit_field.specs.Shapes.{IsShape};
 ghost use Rattle.bit_field.specs.Shapes as shapes;
 ghost use Rattle.pipe_latch.specs.Latches as latches;
 ghost use Rattle.rv_table.specs.Actions as rv;
 ghost use Rattle.cyc_machine.specs.Cycle as cycles;
 ghost use Rattle.run_record.specs.Journals.{Adds, entry_of};
+ghost use Rattle.run_record.specs.Run.{RecordedRun};
+ghost use Rattle.run_record.specs.Within.{record_within};
 ghost use Rattle.run_log.specs.Answers.{IsRecorded};
 ghost use Rattle.run_log.specs.declared.recording.RecordError.TheVariants.{OutOfMemory as no_memory};
 
@@ -64,7 +66,8 @@ pub fn record<'i, L: Ledger>(
 }
 
 /// The run of an image on a machine of a shape, whose RAM the image has; `budget` is 1 to `LONGEST_RUN` cycles. What is recorded
-/// is the instruction set's run, with the clock values that the machine gave.
+/// is the instruction set's run, with the clock values that the machine gave. Where the run ends within the budget no more cycles are
+/// made than it has, whether or not there was memory to record it.
 pub fn record_shaped<'i, L: Ledger>(
     alloc: Global,
     image: &'i Image,
@@ -79,6 +82,7 @@ pub fn record_shaped<'i, L: Ledger>(
     ensures answer { IsRecorded image.now shape.now budget result }
     ensures steps { steps.new ≤ steps.old + budget }
     ensures ticks { IfOk result (λ r. steps.new ≡ steps.old + r.cycles) }
+    ensures within { (r : RecordedRun) → record_within image.now shape.now budget ≡ Some r → steps.new ≤ steps.old + r.cycles }
 {
     run_law(image, shape);
     let mut machine = Machine::shaped(alloc, image, shape)?;

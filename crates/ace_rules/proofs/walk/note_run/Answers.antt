@@ -3,7 +3,9 @@ use Rattle.bit_field.specs.declared.shapes.Shape.{Shape}
 use Rattle.elf_load.specs.Image.{LoadedImage}
 use Rattle.rv_isa.specs.Runs.{reset as arch_reset}
 use Rattle.cyc_machine.specs.State.{reset}
+use Rattle.ace_rules.specs.Situations.{situation_of}
 use Rattle.ace_rules.specs.Walks.{story_of}
+use Rattle.ace_rules.proofs.KeptMasks.{kept_on}
 use Rattle.ace_rules.proofs.Walked.{IsWalked, applies-kept, applies-left, masks-count, walked-commits, walked-cycle, walked-leaves, walked-order}
 use Rattle.ace_rules.proofs.Walked.{walked-running}
 use Rattle.ace_rules.proofs.Walked.{walked-within, walked-words, walked_end, walked_more, walked_start}
@@ -20,6 +22,7 @@ loop-t-init g c = (
       (c.in_ok-arch.ensures.state ∙ ap (λ (image : LoadedImage). arch_reset image []) c.image-2.ensures)),
   omega arith,
   omega arith,
+  tt,
 )
 
 pub note_of-requires-clause-order : goal.note_of-requires-clause-order
@@ -28,8 +31,8 @@ note_of-requires-clause-order g c =
     c.loop-t.t c.loop-t.executed c.loop-t.machine c.loop-t.arch
     c.loop-t.cycles.items c.loop-t.words.items c.loop-t.quiet c.loop-t.invariant.0 (omega (arith, c.loop-t-test.true, c.cycles-t-end.ensures))
 
-pub note_of-requires-clause-within : goal.note_of-requires-clause-within
-note_of-requires-clause-within g c =
+pub masked-now-requires-clause-within : goal.masked-now-requires-clause-within
+masked-now-requires-clause-within g c =
     walked-within (story_of c.args.recorded.now c.args.trace.now) c.args.needs.now c.requires c.last_clock-last.result
     c.loop-t.t c.loop-t.executed c.loop-t.machine c.loop-t.arch
     c.loop-t.cycles.items c.loop-t.words.items c.loop-t.quiet c.loop-t.invariant.0 (omega (arith, c.loop-t-test.true, c.cycles-t-end.ensures))
@@ -85,7 +88,8 @@ loop-t-preserved g c = (
       c.loop-t.machine c.step-report.new.self c.loop-t.arch c.leave_if.new.arch c.loop-t.cycles.items c.push.new.self.items c.note_of.result
       c.loop-t.words.items c.leave_if.new.words.items c.loop-t.quiet c.quiet_after-quiet.result c.step-report.result.retired
       c.step-report.result.issued
-      (omega (arith, c.loop-t-test.true, c.cycles-t-end.ensures)) c.loop-t.invariant.0 c.note_of.ensures c.step-report.ensures.cycle.state
+      (omega (arith, c.loop-t-test.true, c.cycles-t-end.ensures)) c.loop-t.invariant.0
+      (c.note_of.ensures c.args.needs.now c.loop-t.arch c.masked-now.ensures.masks) c.step-report.ensures.cycle.state
       c.step-report.ensures.cycle.retired c.in_ok-leave_if.ensures.leaves c.in_ok-leave_if.ensures.arch c.in_ok-leave_if.ensures.words
       c.step-report.ensures.cycle.issued c.count_after-executed.ensures c.in_ok-push.ensures.items c.quiet_after-quiet.ensures,
   omega (arith, c.loop-t.invariant.1, c.step-report.ensures.steps),
@@ -95,6 +99,8 @@ loop-t-preserved g c = (
       c.step-report.result.retired
       c.loop-t.arch c.leave_if.new.arch c.loop-t.words.items c.leave_if.new.words.items c.in_ok-leave_if.ensures.leaves
       c.in_ok-leave_if.ensures.words),
+  rw c.kept-kept_masks.ensures (kept_on c.args.needs.now c.loop-t.arch c.leave_if.new.arch c.step-report.result.retired c.masked-now.result
+      (situation_of c.loop-t.machine c.loop-t.executed) c.in_ok-leave_if.ensures.arch c.masked-now.ensures.situation c.masked-now.ensures.masks),
 )
 
 pub returns-clause-notes : goal.returns-clause-notes

@@ -1,18 +1,14 @@
+use Rattle.std.proofs.Common.{ℕ, ◌+◌, arith}
 use Rattle.eval_mask.specs.LatchMasks.{IsExecutedMasked, Latches}
-use Rattle.eval_mask.proofs.Masked.{no_both}
-use Rattle.eval_mask.proofs.MaskLoops.{mask_kept, mask_set}
+use Rattle.eval_mask.proofs.Masked.{executed_after}
+use Rattle.eval_mask.proofs.Rows.{row_done, row_next}
 use Rattle.eval_mask.proofs.latches.executed_bits.Goals as goal
-use Rattle.eval_mask.proofs.latches.executed_bits.Goals.{then-executed_bit, else-executed_bit}
 
-pub loop-k-preserved : goal.loop-k-preserved
-loop-k-preserved c =
+pub returns : goal.returns
+returns c =
     let case = c.args.case.now in
     let l : Latches = record { w = c.args.w.now; m = c.args.m.now; d = c.args.d.now } in
     let P = IsExecutedMasked c.args.needs.now c.args.arch.now l case.oldest.value case.npc case.issued in
-    elim c.if-executed_bit.branch [
-      | then-executed_bit w ↦
-          rw w.mask-is
-          (mask_set 128 c.loop-k.k c.loop-k.mask P c.loop-k-test.true c.loop-k.invariant (c.executed_bit.ensures.0 w.if-executed_bit.true))
-      | else-executed_bit w ↦
-          rw w.mask-is (mask_kept c.loop-k.k c.loop-k.mask P c.loop-k.invariant (λ p. no_both _ (c.executed_bit.ensures.1 p) w.if-executed_bit.false))
-    ]
+    rw c.with_field.ensures
+    (row_done 128 75 _ P (λ k h. executed_after c.args.needs.now c.args.arch.now l case.oldest.value case.npc case.issued k h)
+    (row_next 128 43 32 c.result_bits-result.result c.stored_bits-stored.result P (omega arith) c.result_bits-result.ensures c.stored_bits-stored.ensures))

@@ -1,6 +1,8 @@
+use Rattle.std.proofs.Common.{ℕ, ◌+◌, arith}
 use Rattle.eval_mask.specs.LatchMasks.{IsResultMasked, Latches}
-use Rattle.eval_mask.proofs.Masked.{no_both}
+use Rattle.eval_mask.proofs.Masked.{no_both, written_after}
 use Rattle.eval_mask.proofs.MaskLoops.{mask_kept, mask_set}
+use Rattle.eval_mask.proofs.Rows.{row_done}
 use Rattle.eval_mask.proofs.latches.written_bits.Goals as goal
 use Rattle.eval_mask.proofs.latches.written_bits.Goals.{then-written_bit, else-written_bit}
 
@@ -12,7 +14,11 @@ loop-k-preserved c =
     elim c.if-written_bit.branch [
       | then-written_bit w ↦
           rw w.mask-is
-          (mask_set 64 c.loop-k.k c.loop-k.mask P c.loop-k-test.true c.loop-k.invariant (c.written_bit.ensures.0 w.if-written_bit.true))
+          (mask_set 64 c.loop-k.k c.loop-k.mask P (omega (arith, c.loop-k-test.true)) c.loop-k.invariant (c.written_bit.ensures.0 w.if-written_bit.true))
       | else-written_bit w ↦
           rw w.mask-is (mask_kept c.loop-k.k c.loop-k.mask P c.loop-k.invariant (λ p. no_both _ (c.written_bit.ensures.1 p) w.if-written_bit.false))
     ]
+
+pub returns : goal.returns
+returns c =
+    row_done 64 c.loop-k.k c.loop-k.mask _ (λ k h. written_after _ _ _ _ _ _ k (omega (arith, h, c.loop-k-test.false))) c.loop-k.invariant

@@ -1,5 +1,6 @@
 use Rattle.std.proofs.Common.{◌≡◌, ◌+◌, sym, ◌∙◌, subst, arith, add-one}
 use Rattle.cyc_machine.specs.Run.{IsRunning}
+use Rattle.run_log.proofs.Ending.{past}
 use Rattle.run_log.proofs.Keeping.{Kept, ends, goes_on, starts}
 use Rattle.run_log.proofs.Programs.{endless, is_run}
 use Rattle.run_log.proofs.recording.record_shaped.Goals as goal
@@ -34,3 +35,18 @@ returns-clause-answer g c =
     let last : c.loop-cycle.cycle ≡ c.args.budget = omega arith in
     endless c.args.image.now c.args.shape.now c.args.budget c.run_law.ensures
     (subst (IsRunning c.args.image.now c.args.shape.now) last c.loop-cycle.invariant.0.running)
+
+pub returns-in_err-end-clause-within : goal.returns-in_err-end-clause-within
+returns-in_err-end-clause-within g c r within =
+    let long = past c.args.image.now c.args.shape.now c.args.budget c.loop-cycle.cycle r c.requires.shape c.loop-cycle.invariant.0.running within in
+    omega (arith, long, c.run_cycle.ensures.steps, c.loop-cycle.invariant.1)
+
+pub returns-in-Some-clause-within : goal.returns-in-Some-clause-within
+returns-in-Some-clause-within g c r within =
+    let long = past c.args.image.now c.args.shape.now c.args.budget c.loop-cycle.cycle r c.requires.shape c.loop-cycle.invariant.0.running within in
+    omega (arith, long, c.run_cycle.ensures.steps, c.loop-cycle.invariant.1)
+
+pub returns-clause-within : goal.returns-clause-within
+returns-clause-within g c r within =
+    let long = past c.args.image.now c.args.shape.now c.args.budget c.loop-cycle.cycle r c.requires.shape c.loop-cycle.invariant.0.running within in
+    omega (arith, long, c.loop-cycle.invariant.1)

@@ -1,0 +1,3 @@
+mod BitClasses
+mod Rows
+pub mod OneCount

@@ -1,6 +1,0 @@
-use Rattle.std.proofs.Common.{arith}
-use Rattle.avf_tool.proofs.ShortWords.{too_few}
-use Rattle.avf_tool.proofs.command.command_on.Goals as goal
-
-pub returns-in_default-clause-is : goal.returns-in_default-clause-is
-returns-in_default-clause-is c = too_few c.args.shape c.args.words.now (omega (arith, c.in_default.len_below))

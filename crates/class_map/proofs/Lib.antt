@@ -1,0 +1,14 @@
+mod Grouped
+mod Digits
+mod Orders
+mod UnAce
+mod BitLines
+mod StructureLines
+mod Searched
+mod Reaches
+mod MapsWritten
+mod FileLines
+mod Checked
+mod Rounds
+mod RoundTrips
+mod HarmlessLines

@@ -1,0 +1,12 @@
+pub mod Lines
+pub mod Texts
+pub mod Spellings
+pub mod Shown
+pub mod Bounds
+pub mod Maps
+pub mod Searches
+pub mod Written
+pub mod Judging
+pub mod Pieces
+pub mod Faults
+pub mod Checks

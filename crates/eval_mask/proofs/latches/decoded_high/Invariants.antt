@@ -1,9 +1,0 @@
-use Rattle.std.proofs.Common.{◌+◌}
-use Rattle.eval_mask.specs.Cases.{IsMaskBelow}
-use Rattle.eval_mask.specs.LatchMasks.{IsDecodedMasked}
-use Rattle.eval_mask.proofs.latches.decoded_high.Given as goal
-
-abbrev pub invariant-loop-k : goal.invariant-loop-k
-invariant-loop-k l = IsMaskBelow l.k (λ k. IsDecodedMasked l.needs l.arch
-    (record { w = l.w; m = l.m; d = l.d })
-    l.case.oldest.value l.case.npc l.case.issued (128 + k)) l.mask

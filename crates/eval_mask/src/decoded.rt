@@ -1,0 +1,187 @@
+// The masks of ID/EX.
+ghost use Rattle.std.specs.Prelude.{◌≡◌, ◌↔◌, ◌+◌, ◌-◌, ◌*◌, ◌%◌, ◌^◌, ◌<◌, ◌≤◌, ℕ, IsTrue, bit_or, true, if◌then◌else◌};
+ghost use Rattle.pipe_latch.specs.DecodedBits as bits;
+ghost use Rattle.eval_mask.specs.Cases.{IsCase, IsMaskBelow};
+ghost use Rattle.eval_mask.specs.LatchMasks.{HasBits, IsDecodedMasked};
+ghost use Rattle.eval_mask.specs.Unread.{DoesTheSame};
+
+use crate::cases::{Case, is_doing_alike, is_masked};
+use crate::completing::doing_of;
+use crate::unread::{is_a_unread, is_b_unread, is_immediate_unread};
+use bit_field::Struck;
+use need_pass::NeedTable;
+use pipe_latch::{ExMem, IdEx, MemWb};
+use rv_isa::Arch;
+use rv_table::is_clocked;
+
+/// Whether bit `k` of ID/EX, one of a field whose bits can be masked, is masked, where ID/EX holds the next instruction. MEM/WB and EX/MEM
+/// stay as they are, so what ID/EX does decides alone.
+#[tactic(auto, using(crate::proofs::OwnChange::own_below))]
+fn decoded_bit(
+    w: &MemWb,
+    m: &ExMem,
+    d: &IdEx,
+    arch: &Arch<'_>,
+    needs: &NeedTable,
+    case: &Case,
+    k: u32,
+) -> bool
+    requires within { case.now.first_after ≤ needs.now.count }
+    requires case { IsCase needs.now arch.now w.now m.now d.now case.now }
+    requires on_path { case.now.on_path ≡ true }
+    requires from { 31 ≤ k }
+    requires to { k < 148 }
+    ensures { IsTrue result ↔ IsDecodedMasked needs.now arch.now (record { w = w.now; m = m.now; d = d.now }) case.now.oldest.value case.now.npc case.now.issued k }
+{
+    let mut flipped = *d;
+    flipped.flip(k);
+    if !case.reached {
+        return is_masked(&case.own.below, w, m, &flipped, arch, needs, case);
+    }
+    if is_clocked(&flipped.instruction()) {
+        return false;
+    }
+    let doing = doing_of(
+        w,
+        &flipped,
+        &case.own.below.write,
+        case.issued,
+        arch.image(),
+    );
+    is_doing_alike(arch, needs, case, &doing)
+}
+
+/// The masked bits of ID/EX below 52, those of its code and its registers.
+fn front_bits(
+    w: &MemWb,
+    m: &ExMem,
+    d: &IdEx,
+    arch: &Arch<'_>,
+    needs: &NeedTable,
+    case: &Case,
+) -> u128
+    requires within { case.now.first_after ≤ needs.now.count }
+    requires case { IsCase needs.now arch.now w.now m.now d.now case.now }
+    requires on_path { case.now.on_path ≡ true }
+    ensures { IsMaskBelow 52 (IsDecodedMasked needs.now arch.now (record { w = w.now; m = m.now; d = d.now }) case.now.oldest.value case.now.npc case.now.issued) result }
+{
+    let mut mask: u128 = 0;
+    for k in 31..52u32 {
+        if decoded_bit(w, m, d, arch, needs, case, k) {
+            mask |= 1 << k;
+        }
+    }
+    mask
+}
+
+/// The mask of a field that changes nothing: all its bits, or none where a read of the cycle counter is completed.
+pub fn whole_field(reads_clock: bool) -> u32
+    ensures { result ≡ (if reads_clock then 0 else 2 ^ 32 - 1) }
+{
+    if reads_clock { 0 } else { u32::MAX }
+}
+
+/// The masked bits of a field of 32 bits from bit `from` of ID/EX on. One that isn't read is masked whole.
+#[tactic(auto, using(crate::proofs::UnreadMasks::unread_field))]
+fn field_bits(
+    w: &MemWb,
+    m: &ExMem,
+    d: &IdEx,
+    arch: &Arch<'_>,
+    needs: &NeedTable,
+    case: &Case,
+    from: u32,
+    is_unread: bool,
+) -> u32
+    requires within { case.now.first_after ≤ needs.now.count }
+    requires case { IsCase needs.now arch.now w.now m.now d.now case.now }
+    requires on_path { case.now.on_path ≡ true }
+    requires above { 31 ≤ from }
+    requires below { from + 32 ≤ 148 }
+    requires unread { IsTrue is_unread → (i : ℕ) → i < 32 → DoesTheSame w.now case.now.own.below.write d.now (bits.flipped d.now (from + i)) }
+    ensures { IsMaskBelow 32 (λ i. IsDecodedMasked needs.now arch.now (record { w = w.now; m = m.now; d = d.now }) case.now.oldest.value case.now.npc case.now.issued (from + i)) result }
+{
+    if is_unread {
+        return whole_field(case.reads_clock);
+    }
+    let mut mask: u32 = 0;
+    for k in 0..32u32 {
+        if decoded_bit(w, m, d, arch, needs, case, from + k) {
+            mask |= 1 << k;
+        }
+    }
+    mask
+}
+
+/// The masked bits of the first operand.
+fn a_bits(w: &MemWb, m: &ExMem, d: &IdEx, arch: &Arch<'_>, needs: &NeedTable, case: &Case) -> u32
+    requires within { case.now.first_after ≤ needs.now.count }
+    requires case { IsCase needs.now arch.now w.now m.now d.now case.now }
+    requires on_path { case.now.on_path ≡ true }
+    ensures { IsMaskBelow 32 (λ i. IsDecodedMasked needs.now arch.now (record { w = w.now; m = m.now; d = d.now }) case.now.oldest.value case.now.npc case.now.issued (52 + i)) result }
+{
+    let is_unread = is_a_unread(w, d, &case.own.below.write);
+    field_bits(w, m, d, arch, needs, case, 52, is_unread)
+}
+
+/// Those of the second.
+fn b_bits(w: &MemWb, m: &ExMem, d: &IdEx, arch: &Arch<'_>, needs: &NeedTable, case: &Case) -> u32
+    requires within { case.now.first_after ≤ needs.now.count }
+    requires case { IsCase needs.now arch.now w.now m.now d.now case.now }
+    requires on_path { case.now.on_path ≡ true }
+    ensures { IsMaskBelow 32 (λ i. IsDecodedMasked needs.now arch.now (record { w = w.now; m = m.now; d = d.now }) case.now.oldest.value case.now.npc case.now.issued (84 + i)) result }
+{
+    let is_unread = is_b_unread(w, d, &case.own.below.write);
+    field_bits(w, m, d, arch, needs, case, 84, is_unread)
+}
+
+/// Those of the immediate.
+fn immediate_bits(
+    w: &MemWb,
+    m: &ExMem,
+    d: &IdEx,
+    arch: &Arch<'_>,
+    needs: &NeedTable,
+    case: &Case,
+) -> u32
+    requires within { case.now.first_after ≤ needs.now.count }
+    requires case { IsCase needs.now arch.now w.now m.now d.now case.now }
+    requires on_path { case.now.on_path ≡ true }
+    ensures { IsMaskBelow 32 (λ i. IsDecodedMasked needs.now arch.now (record { w = w.now; m = m.now; d = d.now }) case.now.oldest.value case.now.npc case.now.issued (116 + i)) result }
+{
+    let is_unread = is_immediate_unread(d);
+    field_bits(w, m, d, arch, needs, case, 116, is_unread)
+}
+
+/// A row of bits with a field's put in from bit `from` on, as far as they fit.
+pub fn with_field(row: u128, field: u32, from: u32) -> u128
+    requires { from < 128 }
+    ensures { result ≡ bit_or row (field * 2 ^ from % 2 ^ 128) }
+{
+    row | (u128::from(field) << from)
+}
+
+/// The masked bits of ID/EX, below 128 and from 128 on.
+pub fn decoded_bits(
+    w: &MemWb,
+    m: &ExMem,
+    d: &IdEx,
+    arch: &Arch<'_>,
+    needs: &NeedTable,
+    case: &Case,
+) -> (u128, u32)
+    requires within { case.now.first_after ≤ needs.now.count }
+    requires case { IsCase needs.now arch.now w.now m.now d.now case.now }
+    ensures low { HasBits 128 (IsDecodedMasked needs.now arch.now (record { w = w.now; m = m.now; d = d.now }) case.now.oldest.value case.now.npc case.now.issued) result.0 }
+    ensures high { HasBits 32 (λ i. IsDecodedMasked needs.now arch.now (record { w = w.now; m = m.now; d = d.now }) case.now.oldest.value case.now.npc case.now.issued (128 + i)) result.1 }
+{
+    if !case.on_path {
+        return (0, 0);
+    }
+    let front = front_bits(w, m, d, arch, needs, case);
+    let a = a_bits(w, m, d, arch, needs, case);
+    let b = b_bits(w, m, d, arch, needs, case);
+    let immediate = immediate_bits(w, m, d, arch, needs, case);
+    let row = with_field(with_field(front, a, 52), b, 84);
+    (with_field(row, immediate, 116), immediate >> 12)
+}

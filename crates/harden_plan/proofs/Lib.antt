@@ -1,0 +1,3 @@
+pub mod BestSets
+pub mod Sizes
+pub mod Worded

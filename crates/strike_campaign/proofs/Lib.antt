@@ -1,0 +1,5 @@
+pub mod Indices
+pub mod OneCampaign
+pub mod Tallied
+pub mod Words
+pub mod Worded
