@@ -7,7 +7,6 @@ mod DataCycles
 mod DataMoves
 mod Decided
 mod Guards
-mod OneClass
 pub mod OneDue
 mod Passed
 mod Ranges
