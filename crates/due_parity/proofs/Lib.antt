@@ -6,9 +6,7 @@
 mod DataCycles
 mod DataMoves
 mod Decided
-mod Grown
 mod Guards
-mod OneClass
 pub mod OneDue
 mod Passed
 mod Ranges

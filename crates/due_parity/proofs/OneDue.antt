@@ -4,7 +4,7 @@ use Rattle.bit_field.specs.Shapes.{bits_in}
 use Rattle.bit_field.specs.declared.places.Structure.{Structure}
 use Rattle.ace_class.specs.declared.class.Class.{Class}
 use Rattle.ace_rules.specs.Notes.{Story, moment}
-use Rattle.due_parity.proofs.OneClass.{one_class}
+use Rattle.ace_rules.proofs.OneClass.{one_class}
 use Rattle.due_parity.specs.Due.{IsDue, count_from, count_pairs, is_false_due, is_true_due, place}
 use Rattle.due_parity.specs.Fates.{fate}
 use Rattle.due_parity.specs.declared.counting.DueCounts.{DueCounts}

@@ -3,7 +3,7 @@ use Rattle.ace_class.specs.declared.class.Class.{Class}
 use Rattle.ace_law.specs.Classes.{IsClass}
 use Rattle.ace_rules.specs.Notes.{moment}
 use Rattle.due_parity.specs.Stretches.{is_ace}
-use Rattle.due_parity.proofs.OneClass.{one_class}
+use Rattle.ace_rules.proofs.OneClass.{one_class}
 use Rattle.due_parity.proofs.Ranges.{added-most}
 use Rattle.due_parity.proofs.Stretched.{more-ace, no-ace}
 use Rattle.due_parity.proofs.counting.ace_cycles.Goals as goal
