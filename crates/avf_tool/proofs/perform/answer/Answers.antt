@@ -1,6 +1,5 @@
 use Rattle.avf_tool.specs.Answers.{task_answer}
 use Rattle.avf_tool.proofs.Chains.{told}
-use Rattle.avf_tool.proofs.Work as work
 use Rattle.avf_tool.proofs.perform.answer.Goals as goal
 
 pub returns-clause-text : goal.returns-clause-text
