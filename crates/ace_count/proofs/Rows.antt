@@ -5,50 +5,13 @@ use Rattle.std.proofs.lemmas.Bool.{cases_eq}
 use Rattle.std.proofs.lemmas.List.{get_or-set_same, get_or-set_other}
 use Rattle.bit_field.specs.Shapes.{bits_in}
 use Rattle.bit_field.specs.declared.places.Structure.{Structure}
-use Rattle.bit_field.specs.declared.places.Structure.TheVariants.{Pc, Npc, Bht, Btb, Ib, IdEx, ExMem, MemWb}
-use Rattle.bit_field.specs.declared.places.Structure.TheVariants.{Rf, Sb, Port, CData, CTag, CValid, CDirty, CLru}
 use Rattle.bit_field.specs.declared.shapes.Shape.{Shape}
 use Rattle.ace_class.specs.Counts.{Counted, IsCounted, place_of, structures}
+use Rattle.ace_class.proofs.Places.{at_place, place_most}
 use Rattle.run_record.specs.Run.{IsRecord}
 use Rattle.ace_rules.specs.Notes.{Story}
 use Rattle.ace_count.specs.RunCounts.{AreCounts, HasClass, IsRowOf}
 use Rattle.ace_rules.proofs.Tallies.{tally-all}
-
-at-place : (s d : Structure) → slice_index_or structures (place_of s) d ≡ s
-at-place Pc d = refl
-at-place Npc d = refl
-at-place Bht d = refl
-at-place Btb d = refl
-at-place Ib d = refl
-at-place IdEx d = refl
-at-place ExMem d = refl
-at-place MemWb d = refl
-at-place Rf d = refl
-at-place Sb d = refl
-at-place Port d = refl
-at-place CData d = refl
-at-place CTag d = refl
-at-place CValid d = refl
-at-place CDirty d = refl
-at-place CLru d = refl
-
-pub place-most : (s : Structure) → place_of s < 16
-place-most Pc = omega arith
-place-most Npc = omega arith
-place-most Bht = omega arith
-place-most Btb = omega arith
-place-most Ib = omega arith
-place-most IdEx = omega arith
-place-most ExMem = omega arith
-place-most MemWb = omega arith
-place-most Rf = omega arith
-place-most Sb = omega arith
-place-most Port = omega arith
-place-most CData = omega arith
-place-most CTag = omega arith
-place-most CValid = omega arith
-place-most CDirty = omega arith
-place-most CLru = omega arith
 
 -- the row of the next structure
 pub rows-next : (story : Story) (rows : List (List ℕ)) (place : ℕ) (here d : Structure) (row : List ℕ) → place < length rows
@@ -57,7 +20,7 @@ pub rows-next : (story : Story) (rows : List (List ℕ)) (place : ℕ) (here d :
 rows-next story rows place here d row within is so_far next s l =
     elim (cases_eq (place_of s) place) [
       | inl e ↦
-          let same : here ≡ s = is ∙ ap (λ (i : ℕ). slice_index_or structures i d) (sym e) ∙ at-place s d in
+          let same : here ≡ s = is ∙ ap (λ (i : ℕ). slice_index_or structures i d) (sym e) ∙ at_place s d in
           rw (e, get_or-set_same rows place row [] within, ← same) next
       | inr n ↦
           let other : slice_index_or (slice_set rows place row) (place_of s) [] ≡ slice_index_or rows (place_of s) [] =
@@ -74,7 +37,7 @@ all-rows story shape cycles rows place end same_shape same_cycles all each = rec
   shape = same_shape;
   cycles = same_cycles;
   all = all;
-  rows = λ s. each s (let m = place-most s in omega arith);
+  rows = λ s. each s (let m = place_most s in omega arith);
 }
 
 -- each pair is counted in one class

@@ -2,9 +2,10 @@
 use Rattle.std.proofs.Common.{◌≡◌, ℕ, ◌+◌, ◌-◌, ◌^◌, ◌<◌, ◌≤◌, ◌&&◌, ◌||◌, not, Bool, true, false, cond, [], ◌∷◌, refl, sym, ap, ◌∙◌, subst, arith, inl, inr}
 use Rattle.std.specs.Prelude.{Some, bit_and, bit_or, bit_xor, nat_le, nat_lt, if◌then◌else◌}
 use Rattle.std.proofs.lemmas.Option.{same_Some}
-use Rattle.std.proofs.lemmas.Bool.{cases_Bool}
+use Rattle.std.proofs.lemmas.Bool.{agree_below, cases_Bool}
 use Rattle.std.proofs.lemmas.Bool.Decides.{nat_tests}
 use Rattle.std.proofs.lemmas.Nat.Bits.{bit_at_ones}
+use Rattle.std.proofs.Math.Bool.{and-false}
 use Rattle.bit_field.specs.Layouts.{located}
 use Rattle.bit_field.proofs.Located.{located-here, located-on}
 use Rattle.pipe_latch.specs.DecodedBits as idex
@@ -18,7 +19,7 @@ use Rattle.ace_rules.specs.declared.note.Note.{Note}
 use Rattle.ace_rules.specs.declared.tally_decoded.TheConstants.{DECODED_COUNT, DECODED_IMMEDIATE, DECODED_PLACE, DECODED_UNUSED, DECODED_VALID}
 use Rattle.ace_rules.proofs.FirstMasks.{is_rest}
 use Rattle.ace_rules.proofs.LatchMarks.{of}
-use Rattle.ace_rules.proofs.MarkedBits.{agree, and-false, in_field, marks, when-set}
+use Rattle.ace_rules.proofs.MarkedBits.{in_field, marks, when-set}
 use Rattle.ace_rules.proofs.NextBits.{set-or}
 
 -- ---- which fields the masks mark
@@ -36,36 +37,36 @@ says_where of_decoded.Valid = true
 says_where of_decoded.Pc = true
 says_where _ = false
 
-valid-tried : agree (is_set DECODED_VALID) (λ k. in_field is_valid (idex.field_of k)) 128 ≡ true
-unfolding agree located is_valid
+valid-tried : agree_below (is_set DECODED_VALID) (λ k. in_field is_valid (idex.field_of k)) 128 ≡ true
+unfolding located is_valid
 valid-tried = refl
 
-place-tried : agree (is_set DECODED_PLACE) (λ k. in_field says_where (idex.field_of k)) 128 ≡ true
-unfolding agree located says_where
+place-tried : agree_below (is_set DECODED_PLACE) (λ k. in_field says_where (idex.field_of k)) 128 ≡ true
+unfolding located says_where
 place-tried = refl
 
-unused-tried : agree (is_set DECODED_UNUSED) (λ k. in_field is_unused_decoded (idex.field_of k)) 128 ≡ true
-unfolding agree located
+unused-tried : agree_below (is_set DECODED_UNUSED) (λ k. in_field is_unused_decoded (idex.field_of k)) 128 ≡ true
+unfolding located
 unused-tried = refl
 
-no-count-tried : agree (λ k. false) (λ k. in_field is_count (idex.field_of k)) 128 ≡ true
-unfolding agree located
+no-count-tried : agree_below (λ k. false) (λ k. in_field is_count (idex.field_of k)) 128 ≡ true
+unfolding located
 no-count-tried = refl
 
-pc-tried : agree (λ k. nat_le 1 k && nat_lt k 31) (λ k. in_field is_pc (idex.field_of k)) 128 ≡ true
-unfolding agree located is_pc
+pc-tried : agree_below (λ k. nat_le 1 k && nat_lt k 31) (λ k. in_field is_pc (idex.field_of k)) 128 ≡ true
+unfolding located is_pc
 pc-tried = refl
 
-count-tried : agree (is_set DECODED_COUNT) (λ k. in_field is_count (idex.field_of (128 + k))) 25 ≡ true
-unfolding agree located
+count-tried : agree_below (is_set DECODED_COUNT) (λ k. in_field is_count (idex.field_of (128 + k))) 25 ≡ true
+unfolding located
 count-tried = refl
 
-immediate-tried : agree (is_set DECODED_IMMEDIATE) (λ k. in_field is_unused_decoded (idex.field_of (128 + k))) 25 ≡ true
-unfolding agree located
+immediate-tried : agree_below (is_set DECODED_IMMEDIATE) (λ k. in_field is_unused_decoded (idex.field_of (128 + k))) 25 ≡ true
+unfolding located
 immediate-tried = refl
 
-no-place-tried : agree (λ k. false) (λ k. in_field says_where (idex.field_of (128 + k))) 25 ≡ true
-unfolding agree located says_where
+no-place-tried : agree_below (λ k. false) (λ k. in_field says_where (idex.field_of (128 + k))) 25 ≡ true
+unfolding located says_where
 no-place-tried = refl
 
 -- ---- fields that are told apart so

@@ -1,7 +1,7 @@
 -- The bits of free slots that are fields of an empty place.
 use Rattle.std.proofs.Common.{◌≡◌, ℕ, ◌+◌, ◌-◌, ◌*◌, ◌/◌, ◌%◌, ◌<◌, ◌≤◌, ◌==◌, Bool, true, false, not, List, refl, sym, ap, ◌∙◌, subst, arith, inl, inr}
 use Rattle.std.specs.Prelude.{nat_lt, if◌then◌else◌}
-use Rattle.std.proofs.lemmas.Bool.{cases_Bool}
+use Rattle.std.proofs.lemmas.Bool.{agree_below, cases_Bool}
 use Rattle.std.proofs.lemmas.Bool.Decides.{nat_tests}
 use Rattle.bit_field.specs.Layouts.{located}
 use Rattle.bit_field.proofs.Located.{is_located, located_within}
@@ -29,10 +29,10 @@ use Rattle.ace_rules.specs.Tallies.{HasClass}
 use Rattle.ace_rules.specs.declared.note.Note.{Note}
 use Rattle.ace_rules.proofs.FetchedClasses.{fetched_class}
 use Rattle.ace_rules.proofs.PendingClass.{pending-class}
-use Rattle.ace_rules.proofs.MarkedBits.{agree, in_field, marks}
+use Rattle.ace_rules.proofs.MarkedBits.{in_field, marks}
 
-valid-tried : agree (λ k. k == 0) (λ k. in_field is_slot_valid (entry.field_of k)) 64 ≡ true
-unfolding agree located
+valid-tried : agree_below (λ k. k == 0) (λ k. in_field is_slot_valid (entry.field_of k)) 64 ≡ true
+unfolding located
 valid-tried = refl
 
 -- of a free slot of the instruction buffer all but the valid bit
@@ -70,8 +70,8 @@ is_mask : PendingField → Bool
 is_mask of_pending.Mask = true
 is_mask _ = false
 
-mask-tried : agree (λ k. nat_lt k 4) (λ k. in_field is_mask (sb.field_of k)) 66 ≡ true
-unfolding agree located is_mask
+mask-tried : agree_below (λ k. nat_lt k 4) (λ k. in_field is_mask (sb.field_of k)) 66 ≡ true
+unfolding located is_mask
 mask-tried = refl
 
 width-small : (f : PendingField) → sb.width f ≤ 32

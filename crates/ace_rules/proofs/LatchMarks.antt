@@ -1,6 +1,7 @@
 -- The classes of the bits of MEM/WB and EX/MEM by masks.
 use Rattle.std.proofs.Common.{◌≡◌, ℕ, ◌<◌, ◌==◌, not, Bool, true, [], ◌∷◌, refl}
 use Rattle.std.specs.Prelude.{Some, if◌then◌else◌}
+use Rattle.std.proofs.lemmas.Bool.{agree_below}
 use Rattle.bit_field.specs.Layouts.{located}
 use Rattle.bit_field.specs.declared.shapes.TheConstants.{EX_MEM_BITS, MEM_WB_BITS}
 use Rattle.pipe_latch.specs.ExecutedBits as exmem
@@ -15,18 +16,18 @@ use Rattle.ace_rules.specs.RuleMasks.{first_of, is_set}
 use Rattle.ace_rules.specs.declared.note.Note.{Note}
 use Rattle.ace_rules.specs.declared.tally.RuleMask.{RuleMask}
 use Rattle.ace_rules.specs.declared.tally_latches.TheConstants.{EXECUTED_CAUSE, EXECUTED_UNUSED, RESULT_VALUE}
-use Rattle.ace_rules.proofs.MarkedBits.{agree, in_field, marks, when-set}
+use Rattle.ace_rules.proofs.MarkedBits.{in_field, marks, when-set}
 
-value-tried : agree (is_set RESULT_VALUE) (λ k. in_field is_value (memwb.field_of k)) MEM_WB_BITS ≡ true
-unfolding agree located
+value-tried : agree_below (is_set RESULT_VALUE) (λ k. in_field is_value (memwb.field_of k)) MEM_WB_BITS ≡ true
+unfolding located
 value-tried = refl
 
-unused-tried : agree (is_set EXECUTED_UNUSED) (λ k. in_field (λ f. not (is_executed_valid f)) (exmem.field_of k)) EX_MEM_BITS ≡ true
-unfolding agree located
+unused-tried : agree_below (is_set EXECUTED_UNUSED) (λ k. in_field (λ f. not (is_executed_valid f)) (exmem.field_of k)) EX_MEM_BITS ≡ true
+unfolding located
 unused-tried = refl
 
-cause-tried : agree (is_set EXECUTED_CAUSE) (λ k. in_field is_cause (exmem.field_of k)) EX_MEM_BITS ≡ true
-unfolding agree located
+cause-tried : agree_below (is_set EXECUTED_CAUSE) (λ k. in_field is_cause (exmem.field_of k)) EX_MEM_BITS ≡ true
+unfolding located
 cause-tried = refl
 
 -- a rule and its bits

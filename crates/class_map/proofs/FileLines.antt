@@ -43,6 +43,10 @@ feed_at (x ∷ xs) h = elim (cases_Bool (x == line_feed)) [
       subst (λ (n : ℕ). x ∷ xs ≡ take n (x ∷ xs) ++ line_feed ∷ drop (suc n) (x ∷ xs)) (sym (feed_later x xs e)) (ap (λ (l : List ℕ). x ∷ l) (feed_at xs less))
 ]
 
+pub none_of : lines_of [] ≡ []
+unfolding lines_of
+none_of = refl
+
 -- a line that has its line feed
 pub cut_line : (text more : List ℕ) → HasNoFeed text → lines_of (text ++ line_feed ∷ more) ≡ ended_line text ∷ lines_of more
 unfolding lines_of

@@ -2,6 +2,7 @@
 use Rattle.std.proofs.Common.{◌≡◌, ℕ, ◌+◌, ◌<◌, ◌≤◌, ◌^◌, Bool, true, false, not, ◌&&◌, List, [], ◌∷◌, ◌++◌, length, map, Option, None, Some, refl, sym, ap, ◌∙◌, subst, append_assoc, append-nil, sum_by, arith}
 use Rattle.std.specs.Prelude.{Ok, codes, decimal, nat_le, nat_lt, ◌==◌}
 use Rattle.std.specs.List.{join_with_byte, list_all}
+use Rattle.std.proofs.lemmas.Bool.{and_parts}
 use Rattle.std.proofs.lemmas.Bool.Decides.{nat_tests}
 use Rattle.std.proofs.lemmas.Fmt.{length-decimal-le}
 use Rattle.std.proofs.Math.ListN.{length-append}
@@ -31,9 +32,9 @@ use Rattle.class_map.specs.Written.{text_of}
 use Rattle.class_map.specs.declared.judge.TheConstants.{LONGEST_LINE}
 use Rattle.class_map.specs.declared.map_line.MapLine.{MapLine}
 use Rattle.class_map.specs.declared.progress.Progress.{Progress}
-use Rattle.class_map.proofs.FileLines.{cut_line}
+use Rattle.class_map.proofs.FileLines.{cut_line, none_of}
 use Rattle.class_map.proofs.HarmlessLines.{placed_is}
-use Rattle.class_map.proofs.RoundTrips.{digits, numeral_decimal, parts, said_spelled, words_of}
+use Rattle.class_map.proofs.RoundTrips.{digits, numeral_decimal, said_spelled, words_of}
 
 -- ---- no line feed stands in a line
 
@@ -46,14 +47,14 @@ byte_free b h = grind (arith, nat_tests)
 no_feed : (w : List ℕ) → feedless w ≡ true → HasNoFeed w
 unfolding feedless
 no_feed [] h = tt
-no_feed (b ∷ bs) h = let p = parts (not (b == line_feed)) (feedless bs) h in (byte_free b p.0, no_feed bs p.1)
+no_feed (b ∷ bs) h = let p = and_parts (not (b == line_feed)) (feedless bs) h in (byte_free b p.0, no_feed bs p.1)
 
 digit_free : (b : ℕ) → is_digit b ≡ true → (b == line_feed) ≡ false
 digit_free b h = grind (arith, nat_tests)
 
 digits_free : (w : List ℕ) → list_all is_digit w ≡ true → HasNoFeed w
 digits_free [] h = tt
-digits_free (b ∷ bs) h = let p = parts (is_digit b) (list_all is_digit bs) h in (digit_free b p.0, digits_free bs p.1)
+digits_free (b ∷ bs) h = let p = and_parts (is_digit b) (list_all is_digit bs) h in (digit_free b p.0, digits_free bs p.1)
 
 both_free : (v w : List ℕ) → HasNoFeed v → HasNoFeed w → HasNoFeed (v ++ w)
 both_free [] w h k = k
@@ -266,10 +267,6 @@ instructions_pass story h =
     }
 
 -- ---- the lines of the text
-
-none_of : lines_of [] ≡ []
-unfolding lines_of
-none_of = refl
 
 rest_lines : (story : Story) (before : Option MapLine) (lines : List MapLine) → IsShape story.r.shape → story.r.cycles < 2 ^ 32 → AreAllNext story before lines
     → lines_of (lines_text lines) ≡ map (λ line. ended_line (spelled line)) lines

@@ -5,13 +5,13 @@ use Rattle.std.proofs.lemmas.Bool.Decides.{nat_tests}
 use Rattle.bit_field.specs.Shapes.{IsShape}
 use Rattle.bit_field.specs.declared.shapes.Shape.{Shape}
 use Rattle.ace_class.specs.Counts.{place_of}
+use Rattle.ace_class.proofs.Places.{place_most}
 use Rattle.ace_class.proofs.Sizes.{bits_in_most}
 use Rattle.class_map.specs.Bounds.{IsBounded, IsFurther, furthest, reach}
 use Rattle.class_map.specs.Judging.{IsSensible}
 use Rattle.class_map.specs.Lines.{pairs_of}
 use Rattle.class_map.specs.declared.map_line.MapLine.{MapLine}
 use Rattle.class_map.specs.declared.progress.Progress.{Progress}
-use Rattle.class_map.proofs.Orders.{place_most}
 
 further : (a b bit other to from until : ℕ) → (if a == b then (if bit == other then nat_le to from else nat_lt bit other) else nat_lt a b) ≡ true → from < until
     → bit < 2 ^ 17 → other < 2 ^ 17 → to < 2 ^ 32 → until < 2 ^ 32 → (a * 2 ^ 17 + bit) * 2 ^ 32 + to + (until - from) ≤ (b * 2 ^ 17 + other) * 2 ^ 32 + until

@@ -2,7 +2,7 @@
 use Rattle.std.proofs.Common.{◌≡◌, ℕ, suc, ◌+◌, ◌<◌, ◌^◌, Bool, true, false, not, ◌&&◌, List, [], ◌∷◌, ◌++◌, length, take, drop, get_or, Some, refl, ap, ◌∙◌, inl, inr, arith, rules, cond}
 use Rattle.std.specs.Prelude.{codes, decimal, nat_lt, ◌==◌}
 use Rattle.std.specs.List.{list_all, position_or_len}
-use Rattle.std.proofs.lemmas.Bool.{cases_eq}
+use Rattle.std.proofs.lemmas.Bool.{and_from, and_parts, cases_eq}
 use Rattle.std.proofs.lemmas.Bool.Decides.{nat_tests}
 use Rattle.std.proofs.lemmas.Fmt.{decimal_digit, decimal_nonempty, digits_decimal, digits_value-decimal, first_decimal}
 use Rattle.std.proofs.lemmas.Str.Parse.{IsNumeralModel, numerals_by_fold}
@@ -57,20 +57,11 @@ no_blank w = list_all (λ b. not (b == blank)) w
 digit_no_blank : (b : ℕ) → is_digit b ≡ true → not (b == blank) ≡ true
 digit_no_blank b h = grind (arith, nat_tests)
 
-pub parts : (a b : Bool) → (a && b) ≡ true → (a ≡ true) × (b ≡ true)
-parts true b h = (refl, h)
-parts false b h = absurd (never h) where
-  never : false ≡ true → ⊥
-  never e = cc
-
-joined : (a b : Bool) → a ≡ true → b ≡ true → (a && b) ≡ true
-joined a b p q = rw (p, q) refl
-
 digits_no_blank : (w : List ℕ) → list_all is_digit w ≡ true → no_blank w ≡ true
 digits_no_blank [] h = refl
 digits_no_blank (b ∷ bs) h =
-    let p = parts (is_digit b) (list_all is_digit bs) h in
-    joined (not (b == blank)) (no_blank bs) (digit_no_blank b p.0) (digits_no_blank bs p.1)
+    let p = and_parts (is_digit b) (list_all is_digit bs) h in
+    and_from (not (b == blank)) (no_blank bs) (digit_no_blank b p.0) (digits_no_blank bs p.1)
 
 decimal_no_blank : (n : ℕ) → n < 2 ^ 64 → no_blank (decimal n) ≡ true
 decimal_no_blank n h = digits_no_blank (decimal n) (digits_decimal own n h)
@@ -78,7 +69,7 @@ decimal_no_blank n h = digits_no_blank (decimal n) (digits_decimal own n h)
 blank_at : (w rest : List ℕ) → no_blank w ≡ true → position_or_len (λ b. b == blank) (w ++ blank ∷ rest) ≡ length w
 blank_at [] rest h = refl
 blank_at (b ∷ bs) rest h =
-    let p = parts (not (b == blank)) (no_blank bs) h in
+    let p = and_parts (not (b == blank)) (no_blank bs) h in
     ap (λ t. cond t (1 + position_or_len (λ b. b == blank) (bs ++ blank ∷ rest)) 0) p.0 ∙ ap (λ (n : ℕ). 1 + n) (blank_at bs rest p.1) ∙ one (length bs)
   where
     one : (n : ℕ) → 1 + n ≡ suc n

@@ -18,11 +18,7 @@ use Rattle.class_map.specs.declared.fault.Fault.TheVariants.{Misspelled}
 use Rattle.class_map.specs.declared.judge.TheConstants.{LONGEST_LINE}
 use Rattle.class_map.specs.declared.progress.Progress.{Progress}
 use Rattle.class_map.proofs.Checked.{fault_behind, fault_here, passed_more}
-use Rattle.class_map.proofs.FileLines.{begins, glue, glued, unended}
-
-none_of : lines_of [] ≡ []
-unfolding lines_of
-none_of = refl
+use Rattle.class_map.proofs.FileLines.{begins, glue, glued, none_of, unended}
 
 empty : (n : ℕ) → n ≤ 0 → 0 ≡ n
 empty n h = omega arith

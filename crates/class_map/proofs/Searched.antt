@@ -12,7 +12,8 @@ use Rattle.class_map.specs.Maps.{IsMapLine, IsNext, IsNextLine}
 use Rattle.class_map.specs.Searches.{IsBorder, IsFirstOf, IsNextOf, mark}
 use Rattle.class_map.specs.declared.map_line.MapLine.{MapLine}
 use Rattle.class_map.proofs.BitLines.{border}
-use Rattle.class_map.proofs.Orders.{place_at, place_most, same_place, same_structure}
+use Rattle.ace_class.proofs.Places.{place_most, same_structure}
+use Rattle.class_map.proofs.Orders.{place_at, same_place}
 use Rattle.class_map.proofs.StructureLines.{behind_structure}
 
 -- what comes behind one line of a structure comes behind another, where the same lines do

@@ -1,27 +1,21 @@
 -- A bit has one class in a cycle.
-use Rattle.std.proofs.Common.{◌≡◌, ℕ, ◌<◌, ◌≤◌, refl, inl, inr, arith}
-use Rattle.std.proofs.lemmas.Bool.{cases_lt, cases_order}
+use Rattle.std.proofs.Common.{◌≡◌, ℕ, ◌<◌, ◌≤◌, refl, sym, ap, ◌∙◌, inl, inr, arith}
+use Rattle.std.proofs.lemmas.Bool.{cases_lt}
 use Rattle.bit_field.specs.declared.places.Place.{Place}
-use Rattle.ace_class.specs.Classes.{number_of}
+use Rattle.ace_class.specs.Classes.{class_number, number_of}
 use Rattle.ace_class.specs.declared.class.Class.{Class}
 use Rattle.ace_class.specs.declared.class.Class.TheVariants.{Ace, UnAce}
 use Rattle.ace_class.specs.declared.class.Rule.{Rule}
 use Rattle.ace_law.specs.Classes.{IsClass}
 use Rattle.ace_rules.specs.Analyses.{HasOneClass}
 use Rattle.ace_rules.specs.Notes.{Story, moment}
+use Rattle.ace_rules.proofs.OneClass.{one_class}
 use Rattle.class_map.specs.Maps.{IsUnAce}
 use Rattle.class_map.specs.Searches.{IsAce}
 
-lower : (a b m n : ℕ) → a ≡ m → b ≡ n → m < n → a < b
-lower a b m n e f h = omega arith
-
 pub one_number : (story : Story) (place : Place) (t m n : ℕ) → IsUnAce story place t m → IsUnAce story place t n → m ≡ n
 one_number story place t m n h k =
-    elim (cases_order m n) [
-      | inl same ↦ same
-      | inr (inl before) ↦ absurd (k.class.1 h.rule (lower (number_of h.rule) (number_of k.rule) m n h.numbered k.numbered before) h.class.0)
-      | inr (inr behind) ↦ absurd (h.class.1 k.rule (lower (number_of k.rule) (number_of h.rule) n m k.numbered h.numbered behind) k.class.0)
-    ]
+    sym h.numbered ∙ ap class_number (one_class (moment story t) place (UnAce h.rule) (UnAce k.rule) h.class k.class) ∙ k.numbered
 
 pub ace_not : (story : Story) (place : Place) (t n : ℕ) → IsClass Ace (moment story t) place → IsUnAce story place t n → ⊥
 ace_not story place t n ace h = ace h.rule h.class.0

@@ -49,7 +49,8 @@ count_line (Some n) due = if n == due then Ok None else Err OtherRun
 -- a bit of the machine, some cycles of the run, and a rule
 abbrev pub is_within : Shape → ℕ → Structure → Said → Bool
 is_within shape cycles s words =
-    nat_lt words.bit (bits_in s shape) && nat_lt words.from words.to && nat_le words.to cycles && nat_le 1 words.rule && nat_le words.rule 13
+    nat_lt words.bit (bits_in s shape) && nat_lt words.from words.to && nat_le words.to cycles
+    && nat_le 1 words.rule && nat_le words.rule 13
 
 abbrev pub placed_at : Shape → ℕ → Said → Structure → Option MapLine
 placed_at shape cycles words s =

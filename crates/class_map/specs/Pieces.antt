@@ -27,7 +27,8 @@ HasNoFeed bytes = AllByRecursion (λ b. (b == line_feed) ≡ false) bytes
 
 -- the next line of a piece behind the bytes that are used
 pub record IsNextText (piece : List ℕ) (used : ℕ) (text : List ℕ) : Type 0 where
-  pub cut : (more : List ℕ) → lines_of (drop used piece ++ more) ≡ ended_line text ∷ lines_of (drop (used + (length text + 1)) piece ++ more)
+  pub cut : (more : List ℕ) → lines_of (drop used piece ++ more)
+      ≡ ended_line text ∷ lines_of (drop (used + (length text + 1)) piece ++ more)
   pub within : used + (length text + 1) ≤ length piece
 
 -- So many bytes of a piece are whole lines without a fault, whatever bytes come behind the piece; the rest has no line feed.

@@ -11,7 +11,8 @@ use Rattle.class_map.specs.declared.map_line.MapLine.{MapLine}
 
 -- no line of the bit has the cycle and the one before it
 abbrev pub IsBorder : Story → Place → ℕ → Type 0
-IsBorder story place from = (t number : ℕ) → t + 1 ≡ from → IsUnAce story place t number → from < story.r.cycles → IsUnAce story place from number → ⊥
+IsBorder story place from = (t number : ℕ) → t + 1 ≡ from → IsUnAce story place t number → from < story.r.cycles
+    → IsUnAce story place from number → ⊥
 
 -- the bit is ACE from one cycle up to before another
 abbrev pub IsAce : Story → Place → ℕ → ℕ → Type 0
@@ -35,7 +36,8 @@ pub record IsFirstOf (story : Story) (before : Option MapLine) (s : Structure) (
   pub is : IsMapLine story line
   pub in_it : line.place.structure ≡ s
   pub behind : follows before line ≡ true
-  pub first : (other : MapLine) → IsMapLine story other → other.place.structure ≡ s → follows before other ≡ true → (other ≡ line) ⊎ (comes_after line other ≡ true)
+  pub first : (other : MapLine) → IsMapLine story other → other.place.structure ≡ s → follows before other ≡ true
+      → (other ≡ line) ⊎ (comes_after line other ≡ true)
 
 -- of the lines of a structure, what comes next behind the line before
 abbrev pub IsNextOf : Story → Option MapLine → Structure → Option MapLine → Type 0

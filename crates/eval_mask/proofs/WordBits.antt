@@ -1,9 +1,9 @@
 -- The bits of an instruction word.
-use Rattle.std.proofs.Common.{◌≡◌, ◌↔◌, ℕ, ◌+◌, Bool, true, false, refl, sym, ◌∙◌, arith}
-use Rattle.std.specs.Prelude.{IsTrue, slice_index, Option, None, Some}
+use Rattle.std.proofs.Common.{◌≡◌, ◌↔◌, ℕ, ◌+◌, Bool, true, false, refl, sym, ap, ◌∙◌, arith}
+use Rattle.std.specs.Prelude.{IsTrue, slice_index, Option, Some}
+use Rattle.std.proofs.lemmas.Bool.{true≢false}
 use Rattle.std.proofs.lemmas.Nat.Bits.{bit_at-zero}
 use Rattle.std.specs.Option.{is_some}
-use Rattle.std.proofs.lemmas.Option.{none-some}
 use Rattle.avf_base.specs.declared.end.End.{End}
 use Rattle.avf_base.specs.declared.end.End.TheVariants.{Trap}
 use Rattle.elf_load.specs.Image.{LoadedImage}
@@ -53,17 +53,13 @@ illegal_ends : (image : LoadedImage) (op : Op) (at : State) → op.code ≡ ILLE
 unfolding completed action judged asked asked_by
 illegal_ends image op at e = rw (illegal_operation op.code e) refl
 
-both_ways : (o : Option End) (end : End) → o ≡ Some end → o ≡ None → ⊥
-both_ways o end e f = none-some end (sym f ∙ e)
-
-pub not_some : (o : Option End) → is_some o ≡ false → o ≡ None
-not_some None e = refl
-not_some (Some end) e = absurd (grind arith)
+ends_neither : (o p : Option End) (end : End) → p ≡ Some end → p ≡ o → is_some o ≡ false → ⊥
+ends_neither o p end e same none = true≢false (sym (ap is_some (sym same ∙ e)) ∙ none)
 
 pub illegal_alone : (needs : Needs) (i : ℕ) (arch : ArchState) (word other : ℕ) (own : Aftermath) → (decode other).code ≡ ILLEGAL_CODE
-    → Tells own (slice_index arch.registers) (state_of arch).memory (operated arch.image (decode word) (state_of arch)) → own.end ≡ None
+    → Tells own (slice_index arch.registers) (state_of arch).memory (operated arch.image (decode word) (state_of arch)) → is_some own.end ≡ false
     → IsTrue false ↔ IsAlikeWord needs i arch word other
 illegal_alone needs i arch word other own e told none = (
   λ t. absurd (not_true t),
-  λ s. absurd (both_ways _ (Trap ILLEGAL_INSTRUCTION) (illegal_ends arch.image (decode other) (state_of arch) e) (s.agree.stop ∙ told.ends ∙ none)),
+  λ s. absurd (ends_neither own.end _ (Trap ILLEGAL_INSTRUCTION) (illegal_ends arch.image (decode other) (state_of arch) e) (s.agree.stop ∙ told.ends) none),
 )
