@@ -9,10 +9,10 @@ use Rattle.tag_dist.specs.Tables.{Tables}
 use Rattle.slot_history.specs.Histories.{Histories}
 use Rattle.ace_law.specs.Moments.{Moment}
 use Rattle.ace_rules.specs.Analyses.{IsAnalysis}
-use Rattle.ace_rules.specs.Notes.{IsKnown, IsSomeMoment, Story, moment}
+use Rattle.ace_rules.specs.Notes.{AreWordMasks, IsKnown, IsSomeMoment, Story, moment}
 use Rattle.ace_rules.specs.Tallies.{HasClass, IsAdded}
 use Rattle.ace_rules.specs.declared.note.Note.{Note}
-use Rattle.ace_rules.proofs.KnownMoments.{known}
+use Rattle.ace_rules.proofs.KnownMoments.{known, masks}
 
 module _ (story now : Story) (seen : story ≡ now) (table : Needs) (notes deref : List Note) (words : List ℕ) (quiet : ℕ) (life : Lives) (tags : Tables)
     (slots : Histories) (kept : IsAnalysis story table notes words quiet life tags slots) (t : ℕ) (below : t < now.r.cycles) (note : Note)
@@ -25,9 +25,18 @@ module _ (story now : Story) (seen : story ≡ now) (table : Needs) (notes deref
   pub some-note : IsSomeMoment table note (nat_le quiet t)
   some-note = record { a = moment story t; known = known-note }
 
-  -- what is added for a structure at a moment is so in the cycle
+  pub known-masks : (deref_words : List ℕ) → deref_words ≡ words → AreWordMasks (moment story t) table deref_words
+  known-masks deref_words same_words =
+      subst (λ (ws : List ℕ). AreWordMasks (moment story t) table ws) (sym same_words)
+      (masks story table notes words quiet life tags slots kept story.r refl t)
+
+  -- what is added for a structure at the moment is so in the cycle
+  pub added-here : (s given : Structure) → given ≡ s → (bits : ℕ) → bits ≡ bits_in s now.r.shape → (old row : List ℕ)
+      → IsAdded (HasClass (moment story t) s) bits old row → IsAdded (HasClass (moment now t) given) (bits_in given now.r.shape) old row
+  added-here s given is bits all old row added =
+      rw (is, ← all) (subst (λ (x : Story). IsAdded (HasClass (moment x t) s) bits old row) seen added)
+
   pub added-in : (s given : Structure) → given ≡ s → (bits : ℕ) → bits ≡ bits_in s now.r.shape → (old row : List ℕ)
       → ((a : Moment) → IsKnown a table note (nat_le quiet t) → IsAdded (HasClass a s) bits old row)
       → IsAdded (HasClass (moment now t) given) (bits_in given now.r.shape) old row
-  added-in s given is bits all old row added =
-      rw (is, ← all) (subst (λ (x : Story). IsAdded (HasClass (moment x t) s) bits old row) seen (added (moment story t) known-note))
+  added-in s given is bits all old row added = added-here s given is bits all old row (added (moment story t) known-note)

@@ -45,3 +45,5 @@ mod NextBits
 mod DecodedMarks
 mod CycleTallies
 mod FreeSlots
+mod FetchedSlots
+mod FetchedMarks

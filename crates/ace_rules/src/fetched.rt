@@ -15,7 +15,7 @@ use inst_buf::{SLOT_BITS, SLOTS, Slot, SlotField};
 
 /// The number on the path of the entry in a slot, from 0: ID/EX comes first where it is occupied.
 #[tactic(auto, unfolding(crate::specs::FetchedTests::number_of_slot))]
-fn number_of_slot(note: &Note, slot: u32) -> u32
+pub(crate) fn number_of_slot(note: &Note, slot: u32) -> u32
     requires { slot < 2 ^ 32 - 1 }
     ensures { result ≡ asked.number_of_slot note.now slot }
 {
@@ -24,7 +24,7 @@ fn number_of_slot(note: &Note, slot: u32) -> u32
 
 /// Whether a slot holds an entry. Slots are filled in order.
 #[tactic(auto, unfolding(crate::specs::FetchedTests::is_waiting))]
-fn is_waiting(note: &Note, slot: u32) -> bool
+pub(crate) fn is_waiting(note: &Note, slot: u32) -> bool
     ensures { result ≡ asked.is_waiting note.now slot }
 {
     slot < u32::from(note.waiting)
@@ -32,7 +32,7 @@ fn is_waiting(note: &Note, slot: u32) -> bool
 
 /// Whether a slot holds an entry on path.
 #[tactic(auto, unfolding(crate::specs::FetchedTests::is_on_path))]
-fn is_on_path(note: &Note, slot: u32) -> bool
+pub(crate) fn is_on_path(note: &Note, slot: u32) -> bool
     requires { slot < SLOTS }
     ensures { result ≡ asked.is_on_path note.now slot }
 {
@@ -41,7 +41,7 @@ fn is_on_path(note: &Note, slot: u32) -> bool
 
 /// Whether a slot holds an entry on a wrong path.
 #[tactic(auto, unfolding(crate::specs::FetchedTests::is_off_path))]
-fn is_off_path(note: &Note, slot: u32) -> bool
+pub(crate) fn is_off_path(note: &Note, slot: u32) -> bool
     requires { slot < SLOTS }
     ensures { result ≡ asked.is_off_path note.now slot }
 {
@@ -65,7 +65,7 @@ fn is_wrong(note: &Note, slot: u32, field: SlotField, place: u32) -> bool
 
 /// Whether all entries are on path and the next instruction is at address 0, which is that of a free slot.
 #[tactic(auto, unfolding(crate::specs::FetchedTests::is_zero_next))]
-fn is_zero_next(note: &Note) -> bool
+pub(crate) fn is_zero_next(note: &Note) -> bool
     ensures { result ≡ asked.is_zero_next note.now }
 {
     number_of_slot(note, u32::from(note.waiting)) == u32::from(note.on_path) && is_next(note, 0)

@@ -30,6 +30,7 @@ mod stays;
 mod tally;
 mod tally_cycle;
 mod tally_decoded;
+mod tally_fetched;
 mod tally_latches;
 mod tally_registers;
 mod timing;

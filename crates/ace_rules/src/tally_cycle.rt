@@ -2,7 +2,7 @@
 ghost use Rattle.std.specs.Prelude.{◌≡◌, ◌+◌, ◌^◌, ◌<◌, ◌≤◌, ℕ, if◌then◌else◌, slice_index};
 ghost use Rattle.bit_field.specs.Shapes.{bits_in};
 ghost use Rattle.bit_field.specs.declared.places.Structure.TheVariants as structure;
-ghost use Rattle.bit_field.specs.declared.shapes.TheConstants.{IB_BITS, SB_BITS};
+ghost use Rattle.bit_field.specs.declared.shapes.TheConstants.{SB_BITS};
 ghost use Rattle.ace_class.specs.declared.class.Class.TheVariants.{UnAce};
 ghost use Rattle.ace_class.specs.declared.class.Rule.TheVariants.{EmptyPlace};
 ghost use Rattle.ace_rules.specs.Notes.{moment};
@@ -10,12 +10,13 @@ ghost use Rattle.ace_rules.specs.Tallies.{HasClass, IsAdded};
 
 use crate::analysis::Analysis;
 use crate::classes::note_at;
+use crate::note::Note;
 use crate::tally_decoded::add_decoded;
+use crate::tally_fetched::add_fetched;
 use crate::tally_latches::{add_executed, add_result};
 use crate::tally_registers::add_registers;
 use ace_class::{CLASSES, Rule};
 use bit_field::{Place, Structure, bits_in};
-use inst_buf::SLOT_BITS;
 use store_buf::PENDING_BITS;
 
 /// The bits of a store's mask, the first of its slot.
@@ -88,26 +89,6 @@ impl Analysis<'_> {
         row[usize::from(Rule::EmptyPlace.number())] += u64::from(empty);
     }
 
-    /// Adds to a row the bits of the instruction buffer. Of a free slot all but the valid bit are fields of an empty place.
-    fn add_fetched(&self, cycle: u32, row: &mut [u64; CLASSES])
-        requires cycle { cycle < self.now.r.cycles }
-        requires room { (n : ℕ) → slice_index row.old n + IB_BITS < 2 ^ 64 }
-        ensures { IsAdded (HasClass (moment self.now cycle) structure.Ib) IB_BITS row.old row.new }
-    {
-        let waiting = u32::from(note_at(&self.notes, cycle).waiting);
-        for slot in 0..inst_buf::SLOTS as u32 {
-            let asked = if_occupied(slot < waiting, SLOT_BITS, 1);
-            self.add_slot(
-                Structure::Ib,
-                cycle,
-                SLOT_BITS * slot,
-                asked,
-                SLOT_BITS - asked,
-                row,
-            );
-        }
-    }
-
     /// Adds to a row the bits of the store buffer. Of a free slot all but the mask are fields of an empty place.
     fn add_pending(&self, cycle: u32, row: &mut [u64; CLASSES])
         requires cycle { cycle < self.now.r.cycles }
@@ -135,14 +116,16 @@ impl Analysis<'_> {
         requires room { (n : ℕ) → slice_index row.old n + bits_in structure self.now.r.shape < 2 ^ 64 }
         ensures { IsAdded (HasClass (moment self.now cycle) structure) (bits_in structure self.now.r.shape) row.old row.new }
     {
-        let note = note_at(&self.notes, cycle);
+        let notes: &[Note] = &self.notes;
+        let words: &[u32] = &self.words;
+        let note = note_at(notes, cycle);
         let quiet = self.quiet <= cycle;
         match structure {
             Structure::IdEx => add_decoded(note, quiet, row),
             Structure::ExMem => add_executed(note, quiet, row),
             Structure::MemWb => add_result(note, quiet, row),
             Structure::Rf => add_registers(note, &self.needs, quiet, row),
-            Structure::Ib => self.add_fetched(cycle, row),
+            Structure::Ib => add_fetched(note, words, quiet, row),
             Structure::Sb => self.add_pending(cycle, row),
             _ => self.add_bits(structure, cycle, row),
         }
