@@ -14,8 +14,12 @@ fn tally(a: &Analysis<'_>, structure: Structure) -> [u64; CLASSES]
     ensures { IsRowOf a.now structure result }
 {
     match structure {
-        Structure::Ib | Structure::IdEx | Structure::ExMem | Structure::MemWb | Structure::Sb =>
-            tally_by_cycles(a, structure),
+        Structure::Ib
+        | Structure::IdEx
+        | Structure::ExMem
+        | Structure::MemWb
+        | Structure::Rf
+        | Structure::Sb => tally_by_cycles(a, structure),
         _ => tally_by_intervals(a, structure),
     }
 }

@@ -21,6 +21,7 @@ mod VacantSlots
 mod FirstRuleLaws
 mod NotedTests
 mod RegisterClasses
+mod RegisterMarks
 mod TimingClasses
 mod LatchClasses
 mod NextEntries

@@ -31,6 +31,7 @@ mod tally;
 mod tally_cycle;
 mod tally_decoded;
 mod tally_latches;
+mod tally_registers;
 mod timing;
 mod until;
 mod walk;

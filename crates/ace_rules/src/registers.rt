@@ -15,7 +15,7 @@ use need_pass::NeedTable;
 
 /// How many instructions have left EX or are held on path by ID/EX.
 #[tactic(auto, unfolding(crate::specs::PipelineTests::decoded_by))]
-fn decoded(note: &Note, needs: &NeedTable) -> u32
+pub(crate) fn decoded(note: &Note, needs: &NeedTable) -> u32
     requires { asked.decoded_by note.now ≤ needs.now.count }
     ensures { result ≡ asked.decoded_by note.now }
 {
@@ -29,7 +29,7 @@ fn decoded(note: &Note, needs: &NeedTable) -> u32
 
 /// Whether MEM/WB, EX/MEM or, on path, ID/EX writes register `r`.
 #[tactic(auto, unfolding(crate::specs::PipelineTests::is_overwritten))]
-fn is_overwritten(note: &Note, r: u8) -> bool
+pub(crate) fn is_overwritten(note: &Note, r: u8) -> bool
     ensures { result ≡ asked.is_overwritten note.now r }
 {
     note.result_rd == r || note.executed_rd == r || (note.decoded_on_path && note.decoded_rd == r)

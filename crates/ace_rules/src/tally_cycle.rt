@@ -12,6 +12,7 @@ use crate::analysis::Analysis;
 use crate::classes::note_at;
 use crate::tally_decoded::add_decoded;
 use crate::tally_latches::{add_executed, add_result};
+use crate::tally_registers::add_registers;
 use ace_class::{CLASSES, Rule};
 use bit_field::{Place, Structure, bits_in};
 use inst_buf::SLOT_BITS;
@@ -140,6 +141,7 @@ impl Analysis<'_> {
             Structure::IdEx => add_decoded(note, quiet, row),
             Structure::ExMem => add_executed(note, quiet, row),
             Structure::MemWb => add_result(note, quiet, row),
+            Structure::Rf => add_registers(note, &self.needs, quiet, row),
             Structure::Ib => self.add_fetched(cycle, row),
             Structure::Sb => self.add_pending(cycle, row),
             _ => self.add_bits(structure, cycle, row),

@@ -1,8 +1,8 @@
-// Rows of `plan` and `campaign`.
+// Rows of `plan`, `campaign` and `due`.
 ghost use Rattle.std.specs.Prelude.{◌≡◌, ◌<◌};
 
 use crate::report_rows::has;
-use crate::rows::row;
+use crate::rows::{CONFLICT, row};
 use avf_base::{Steps, counter};
 use elf_fixture::{THREE, flat};
 use std::marker::Brand;
@@ -50,6 +50,41 @@ fn plans<R: Abort + AllocGlobal, L: Ledger, M: Ledger>(
     has(rt, steps, applies, "campaign a.elf 6 1 200", &file, &pieces);
 }
 
+// Rows of `due` on the flat image of three words, and on one whose loads conflict in the cache.
+fn dues<R: Abort + AllocGlobal, L: Ledger, M: Ledger>(
+    rt: &R,
+    steps: &mut Steps<L>,
+    applies: &mut Steps<M>,
+) {
+    let rows: [(&[u32], &str, u8, &str); 6] = [
+        (
+            &THREE,
+            "due a.elf 6 both",
+            0,
+            "cycles 6\nstructure true false quiet\nrf 0 256 5696\ncdata 0 0 49152\n",
+        ),
+        (
+            &THREE,
+            "due a.elf 6 rf",
+            0,
+            "cycles 6\nstructure true false quiet\nrf 0 256 5696\n",
+        ),
+        (
+            &CONFLICT,
+            "due a.elf 46 cdata",
+            0,
+            "cycles 46\nstructure true false quiet\ncdata 128 0 376704\n",
+        ),
+        (&THREE, "due a.elf 5 rf", 5, "avf: no end\n"),
+        (&THREE, "due a.elf 6 pc", 2, "avf: usage\n"),
+        (&THREE, "due a.elf 6", 2, "avf: usage\n"),
+    ];
+    for (image, line, status, text) in rows {
+        let file = flat(rt.alloc(), image).expect(rt, "ample memory");
+        row(rt, steps, applies, line, &file, status, text);
+    }
+}
+
 fn all<R: Abort + AllocGlobal + Files, L: Ledger, M: Ledger>(rt: &R, one: Blank, other: Blank)
     requires one_name { one.name ≡ L.name }
     requires one_parts { one.parts ≡ L.parts }
@@ -61,6 +96,7 @@ fn all<R: Abort + AllocGlobal + Files, L: Ledger, M: Ledger>(rt: &R, one: Blank,
     let mut steps = counter::<R, L>(rt, one);
     let mut applies = counter::<R, M>(rt, other);
     plans(rt, &mut steps, &mut applies);
+    dues(rt, &mut steps, &mut applies);
 }
 
 #[test]

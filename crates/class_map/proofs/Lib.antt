@@ -12,5 +12,6 @@ mod Checked
 mod Rounds
 mod RoundTrips
 mod HarmlessLines
-mod Outcomes
+pub mod Outcomes
+pub mod OneMap
 mod OwnMaps

@@ -27,6 +27,3 @@ pub use laws::parity_law;
 pub use table::{FateTable, watch};
 pub use text::{DueRow, due_text};
 pub use touch::Touch;
-
-#[cfg(test)]
-mod tests;
