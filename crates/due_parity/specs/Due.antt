@@ -46,7 +46,8 @@ count_pairs bits cycles test = sum_from 0 bits (λ k. count_from 0 cycles (test 
 -- The counts of the first so many bits of a structure. `classes` has the class of each pair that is detected.
 pub record CountsBits (story : Story) (s : Structure) (bits : ℕ) (counts : DueCounts) : Type 0 where
   pub classes : ℕ → ℕ → Class
-  pub are : (k t c : ℕ) → k < bits → t < story.r.cycles → fate story.r (place s k) t ≡ Detected c → IsClass (classes k t) (moment story t) (place s k)
+  pub are : (k t c : ℕ) → k < bits → t < story.r.cycles → fate story.r (place s k) t ≡ Detected c
+      → IsClass (classes k t) (moment story t) (place s k)
   pub true_due : counts.true_due ≡ count_pairs bits story.r.cycles (λ k t. is_true_due (fate story.r (place s k) t) (classes k t))
   pub false_due : counts.false_due ≡ count_pairs bits story.r.cycles (λ k t. is_false_due (fate story.r (place s k) t) (classes k t))
   pub quiet : counts.quiet ≡ count_pairs bits story.r.cycles (λ k t. is_quiet (fate story.r (place s k) t))

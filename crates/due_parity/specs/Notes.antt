@@ -1,5 +1,6 @@
 -- What is kept of the touches of each group: their cycles, and whether they read the group.
-use Rattle.std.specs.Prelude.{◌≡◌, ◌<◌, ◌*◌, ℕ, zero, suc, true, false, List, [], ◌∷◌, length, Option, Some, None, AllPairs, nat_lt, if◌then◌else◌, slice_index_or}
+use Rattle.std.specs.Prelude.{◌≡◌, ◌<◌, ◌*◌, ℕ, zero, suc, true, false, nat_lt, if◌then◌else◌}
+use Rattle.std.specs.Prelude.{List, [], ◌∷◌, length, Option, Some, None, AllPairs, slice_index_or}
 use Rattle.elf_load.specs.Image.{LoadedImage}
 use Rattle.bit_field.specs.Shapes.{slots}
 use Rattle.bit_field.specs.declared.places.Structure.{Structure}

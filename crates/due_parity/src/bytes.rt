@@ -81,7 +81,8 @@ pub fn note_event(
     requires bytes { length bytes.old ≡ 16 * slots shape.now }
     requires history { history.now.shape ≡ shape.now }
     requires event { ForSome event (λ e. (e.set < shape.now.sets) × (e.way < shape.now.ways)) }
-    ensures { OnOk result (IsNotedIn (growth.event_touch shape.now history.now cycle event) cycle 0 (16 * slots shape.now) bytes.old bytes.new) }
+    ensures { let touch = growth.event_touch shape.now history.now cycle event in
+        OnOk result (IsNotedIn touch cycle 0 (16 * slots shape.now) bytes.old bytes.new) }
 {
     match event {
         None => Ok(()),
