@@ -1,7 +1,6 @@
 -- The classes of the bits of the value of a pending store by masks.
-use Rattle.std.proofs.Common.{◌≡◌, ℕ, ◌+◌, ◌-◌, ◌*◌, ◌/◌, ◌%◌, ◌^◌, ◌<◌, ◌==◌, ◌&&◌, ◌||◌, not, Bool, true, false, cond, [], ◌∷◌, refl, sym, ap, ◌∙◌, arith}
+use Rattle.std.proofs.Common.{◌≡◌, ℕ, ◌+◌, ◌-◌, ◌*◌, ◌/◌, ◌%◌, ◌^◌, ◌<◌, ◌&&◌, ◌||◌, not, Bool, true, false, cond, [], ◌∷◌, refl, ap, ◌∙◌, arith}
 use Rattle.std.specs.Prelude.{Some, bit_and, bit_xor, if◌then◌else◌}
-use Rattle.std.specs.Int.{bit_at}
 use Rattle.std.proofs.lemmas.Bool.Decides.{nat_tests}
 use Rattle.std.proofs.lemmas.Nat.Bits.{bit_at_ones}
 use Rattle.bit_field.specs.Lanes.{has_lane}
@@ -12,7 +11,6 @@ use Rattle.need_pass.specs.Tables.{Needs, byte_need}
 use Rattle.store_buf.specs.Pending.{slot_of}
 use Rattle.store_buf.specs.EntryBits as sb
 use Rattle.store_buf.specs.declared.pending.PendingField.TheVariants.{Value}
-use Rattle.ace_class.specs.declared.class.Class.{Class}
 use Rattle.ace_class.specs.declared.class.Class.TheVariants.{Ace, UnAce}
 use Rattle.ace_class.specs.declared.class.Rule.TheVariants.{DeadData, EmptyPlace, StoreRedirection}
 use Rattle.ace_law.specs.Moments.{Moment}
@@ -50,8 +48,8 @@ two false false d = refl
 class-of : (image : LoadedImage) (table : Needs) (note : Note) (quiet : Bool) (i b j : ℕ)
     → pending_class image table note quiet i b Value j
     ≡ (if not (has_lane (slot_of note.stores i).mask (j / 8)) then UnAce EmptyPlace
-      else if quiet && is_dead table note (i + 1) (4 * (slot_of note.stores i).addr + j / 8) (j % 8) then UnAce DeadData
-      else if quiet && false then UnAce StoreRedirection else Ace)
+    else if quiet && is_dead table note (i + 1) (4 * (slot_of note.stores i).addr + j / 8) (j % 8) then UnAce DeadData
+    else if quiet && false then UnAce StoreRedirection else Ace)
 unfolding pending_class is_unused is_dead_value is_redirected
 class-of image table note quiet i b j = refl
 

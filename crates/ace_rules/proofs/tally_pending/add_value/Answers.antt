@@ -1,6 +1,5 @@
 use Rattle.std.proofs.Common.{ℕ, ◌+◌, ◌*◌, subst, arith}
 use Rattle.bit_field.specs.declared.places.Structure.TheVariants.{Sb}
-use Rattle.ace_law.specs.Moments.{Moment}
 use Rattle.ace_rules.specs.Tallies.{HasClass, IsAdded}
 use Rattle.ace_rules.proofs.FirstMasks.{added-firsts}
 use Rattle.ace_rules.proofs.PendingMarks.{value-class}

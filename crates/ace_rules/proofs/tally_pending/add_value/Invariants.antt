@@ -1,4 +1,4 @@
-use Rattle.std.proofs.Common.{ℕ, ◌+◌, ◌*◌}
+use Rattle.std.proofs.Common.{◌+◌, ◌*◌}
 use Rattle.bit_field.specs.declared.places.Structure.TheVariants.{Sb}
 use Rattle.ace_law.specs.Moments.{Moment}
 use Rattle.ace_rules.specs.Notes.{IsKnown}

@@ -1,4 +1,4 @@
-use Rattle.std.proofs.Common.{ℕ, ◌+◌, ◌-◌, ◌*◌, ap, sym, ◌∙◌, subst, arith}
+use Rattle.std.proofs.Common.{◌≡◌, ℕ, ◌+◌, ◌-◌, ◌*◌, ap, sym, ◌∙◌, subst, arith}
 use Rattle.std.specs.Prelude.{nat_le}
 use Rattle.bit_field.specs.declared.places.Structure.TheVariants.{Sb}
 use Rattle.store_buf.specs.Entry.{Entry}
@@ -63,8 +63,9 @@ loop-slot-preserved c =
     let value =
     subst (λ (y : Story). IsAdded (λ k. HasClass (moment y t) Sb (66 * slot + (34 + k))) 32 c.add_slot.new.row c.add_value.new.row) c.self.view_is
     (c.add_value.ensures (moment story t) known) in
+    let all : asked + (34 - asked) ≡ 34 = omega (arith, few) in
     let target =
-    subst (λ (n : ℕ). IsAdded (λ k. HasClass (moment c.args.self.now t) Sb (66 * slot + k)) n c.loop-slot.row c.add_slot.new.row) (omega (arith, few))
+    subst (λ (n : ℕ). IsAdded (λ k. HasClass (moment c.args.self.now t) Sb (66 * slot + k)) n c.loop-slot.row c.add_slot.new.row) all
     c.add_slot.ensures in
     subst (λ (n : ℕ). IsAdded (HasClass (moment c.args.self.now t) Sb) n c.args.row.now c.add_value.new.row) (omega arith)
     (added-behind (HasClass (moment c.args.self.now t) Sb) (66 * slot) (34 + 32) c.args.row.now c.loop-slot.row c.add_value.new.row
