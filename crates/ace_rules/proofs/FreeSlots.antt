@@ -67,13 +67,13 @@ module _ (a : Moment) (table : Needs) (note : Note) (quiet : Bool) (known : IsKn
       subst (λ (c : Class). HasClass a Sb k c) (free-store a.r.image table note quiet i j place.0 place.1 free field)
       (pending-class a.r.image a table note quiet known refl i few k j slot bit place.0 place.1 at below (omega (arith, within, small)))
 
-  pub vacant-pending : (i asked : ℕ) (occupied : Bool) → i < 4 → asked ≡ (if occupied then 66 else 4)
-      → (occupied ≡ false → (slot_of note.stores i).mask ≡ 0) → (k : ℕ) → k < 66 - asked
+  pub vacant-pending : (i asked : ℕ) (occupied : Bool) → i < 4 → asked ≡ (if occupied then 34 else 4)
+      → (occupied ≡ false → (slot_of note.stores i).mask ≡ 0) → (k : ℕ) → k < 34 - asked
       → HasClass a Sb (66 * i + asked + k) (UnAce EmptyPlace)
   vacant-pending i asked occupied few is free k l = elim (cases_Bool occupied) [
-    | inl full ↦ let all : asked ≡ 66 = is ∙ ap (λ (b : Bool). if b then 66 else 4) full in absurd (omega (arith, all, l))
+    | inl full ↦ let all : asked ≡ 34 = is ∙ ap (λ (b : Bool). if b then 34 else 4) full in absurd (omega (arith, all, l))
     | inr vacant ↦
-        let four : asked ≡ 4 = is ∙ ap (λ (b : Bool). if b then 66 else 4) vacant in
+        let four : asked ≡ 4 = is ∙ ap (λ (b : Bool). if b then 34 else 4) vacant in
         free-pending i (4 + k) (66 * i + asked + k) (omega (arith, four)) few (free vacant) (omega arith) (omega (arith, four, l))
   ]
 

@@ -47,3 +47,4 @@ mod CycleTallies
 mod FreeSlots
 mod FetchedSlots
 mod FetchedMarks
+mod PendingMarks

@@ -9,7 +9,9 @@
 // - classes: the class of any bit; until, stays: how long a bit keeps its class;
 // - later: what instructions that haven't left the memory stage need and access;
 // - pending: the classes of the bits of the store buffer;
-// - lines, line_data: the classes of the bits of line slots.
+// - lines, line_data: the classes of the bits of line slots;
+// - tally: how many bits have each class, by masks of the rules; tally_latches, tally_decoded, tally_fetched, tally_registers,
+//   tally_pending: the masks of each structure; tally_cycle: all bits of a structure in a cycle.
 #![tactic(auto)]
 
 mod analysis;
@@ -32,6 +34,7 @@ mod tally_cycle;
 mod tally_decoded;
 mod tally_fetched;
 mod tally_latches;
+mod tally_pending;
 mod tally_registers;
 mod timing;
 mod until;

@@ -14,6 +14,7 @@ use crate::note::Note;
 use crate::tally_decoded::add_decoded;
 use crate::tally_fetched::add_fetched;
 use crate::tally_latches::{add_executed, add_result};
+use crate::tally_pending::add_value;
 use crate::tally_registers::add_registers;
 use ace_class::{CLASSES, Rule};
 use bit_field::{Place, Structure, bits_in};
@@ -22,7 +23,10 @@ use store_buf::PENDING_BITS;
 /// The bits of a store's mask, the first of its slot.
 const MASK_BITS: u32 = 4;
 
-/// How many bits of a slot are looked at one by one: all where it is occupied, else a few.
+/// The bits of a store's mask and of its address.
+const TARGET_BITS: u32 = 34;
+
+/// How many bits of a slot are looked at one by one: all of them where it is occupied, else a few.
 fn if_occupied(occupied: bool, all: u32, few: u32) -> u32
     requires { few ≤ all }
     ensures value { result ≡ (if occupied then all else few) }
@@ -89,24 +93,27 @@ impl Analysis<'_> {
         row[usize::from(Rule::EmptyPlace.number())] += u64::from(empty);
     }
 
-    /// Adds to a row the bits of the store buffer. Of a free slot all but the mask are fields of an empty place.
+    /// Adds to a row the bits of the store buffer: of each slot first those that say where it writes, one by one, and then its value. Of a
+    /// free slot the address is a field of an empty place.
     fn add_pending(&self, cycle: u32, row: &mut [u64; CLASSES])
         requires cycle { cycle < self.now.r.cycles }
         requires room { (n : ℕ) → slice_index row.old n + SB_BITS < 2 ^ 64 }
         ensures { IsAdded (HasClass (moment self.now cycle) structure.Sb) SB_BITS row.old row.new }
     {
         let note = note_at(&self.notes, cycle);
+        let quiet = self.quiet <= cycle;
         for slot in 0..store_buf::SLOTS as u32 {
             let store = note.stores.slot(slot);
-            let asked = if_occupied(store.mask != 0, PENDING_BITS, MASK_BITS);
+            let asked = if_occupied(store.mask != 0, TARGET_BITS, MASK_BITS);
             self.add_slot(
                 Structure::Sb,
                 cycle,
                 PENDING_BITS * slot,
                 asked,
-                PENDING_BITS - asked,
+                TARGET_BITS - asked,
                 row,
             );
+            add_value(note, &self.needs, quiet, slot, row);
         }
     }
 

@@ -1,0 +1,68 @@
+// How many bits of the value of a pending store have each class in a cycle.
+ghost use Rattle.std.specs.Prelude.{◌≡◌, ◌+◌, ◌*◌, ◌^◌, ◌<◌, ◌≤◌, ℕ, slice_index};
+ghost use Rattle.bit_field.specs.declared.places.Structure.TheVariants as structure;
+ghost use Rattle.elf_load.specs.Image.{LoadedImage};
+ghost use Rattle.store_buf.specs.declared.buffer.TheConstants.{SLOTS};
+ghost use Rattle.store_buf.specs.declared.pending.PendingField.TheVariants as field;
+ghost use Rattle.store_buf.specs.declared.pending.TheConstants.{PENDING_BITS};
+ghost use Rattle.ace_law.specs.Moments.{Moment};
+ghost use Rattle.ace_rules.specs.Asked as asked;
+ghost use Rattle.ace_rules.specs.Notes.{IsKnown, IsSomeMoment};
+ghost use Rattle.ace_rules.specs.RuleMasks.{first_of};
+ghost use Rattle.ace_rules.specs.Tallies.{HasClass, IsAdded};
+
+use crate::later::retired;
+use crate::note::Note;
+use crate::pending::is_pending_from;
+use crate::tally::{RuleMask, add_firsts, when, without};
+use ace_class::{CLASSES, Rule};
+use bit_field::has_lane;
+use need_pass::NeedTable;
+use store_buf::SLOTS;
+
+/// All bits of a byte.
+pub(crate) const BYTE_MASK: u128 = 0xff;
+
+/// The bits of a byte of the value in a slot of which each rule holds: all where the store doesn't write the byte, and those that a
+/// store behind it writes or nothing needs.
+fn byte_masks(note: &Note, needs: &NeedTable, quiet: bool, slot: u32, lane: u32) -> [RuleMask; 2]
+    requires instruction { asked.retired_by note.now ≤ needs.now.count }
+    requires slot { slot < SLOTS }
+    requires lane { lane < 4 }
+    ensures { (image : LoadedImage) (b j : ℕ) → j < 8 → first_of result j ≡ asked.pending_class image needs.now note.now quiet slot b field.Value (8 * lane + j) }
+{
+    let store = note.stores.slot(slot);
+    let byte = 4 * store.addr + lane;
+    let empty = when(!has_lane(store.mask, lane), BYTE_MASK);
+    let needed = u128::from(needs.byte_need(byte, retired(note)));
+    let kept = when(!is_pending_from(&note.stores, slot + 1, byte), needed);
+    let dead = without(BYTE_MASK, kept);
+    [
+        RuleMask {
+            rule: Rule::EmptyPlace,
+            mask: empty,
+        },
+        RuleMask {
+            rule: Rule::DeadData,
+            mask: when(quiet, dead),
+        },
+    ]
+}
+
+/// Adds to a row how many bits of the value in a slot, its last 32, have each class.
+pub(crate) fn add_value(
+    note: &Note,
+    needs: &NeedTable,
+    quiet: bool,
+    slot: u32,
+    row: &mut [u64; CLASSES],
+)
+    requires slot { slot < SLOTS }
+    requires some { IsSomeMoment needs.now note.now quiet }
+    requires room { (n : ℕ) → slice_index row.old n + 32 < 2 ^ 64 }
+    ensures { (a : Moment) → IsKnown a needs.now note.now quiet → IsAdded (λ k. HasClass a structure.Sb (PENDING_BITS * slot + (34 + k))) 32 row.old row.new }
+{
+    for lane in 0..4 {
+        add_firsts(&byte_masks(note, needs, quiet, slot, lane), 8, row);
+    }
+}
