@@ -1,4 +1,4 @@
-// Rows of `plan`, `campaign` and `due`.
+// Rows of `plan`, `campaign`, `due` and `map`.
 ghost use Rattle.std.specs.Prelude.{◌≡◌, ◌<◌};
 
 use crate::report_rows::has;
@@ -85,6 +85,27 @@ fn dues<R: Abort + AllocGlobal, L: Ledger, M: Ledger>(
     }
 }
 
+// Rows of `map` on the flat image of three words: the beginning of the text.
+fn maps<R: Abort + AllocGlobal, L: Ledger, M: Ledger>(
+    rt: &R,
+    steps: &mut Steps<L>,
+    applies: &mut Steps<M>,
+) {
+    let file = flat(rt.alloc(), &THREE).expect(rt, "ample memory");
+    let pieces = ["avf-map 1\ncycles 6\ninstructions 3\npc 0 0 6 U1\npc 1 0 6 U1\n"];
+    has(rt, steps, applies, "map a.elf 6", &file, &pieces);
+    row(rt, steps, applies, "map a.elf 5", &file, 5, "avf: no end\n");
+    row(
+        rt,
+        steps,
+        applies,
+        "map a.elf 6 b",
+        &file,
+        2,
+        "avf: usage\n",
+    );
+}
+
 fn all<R: Abort + AllocGlobal + Files, L: Ledger, M: Ledger>(rt: &R, one: Blank, other: Blank)
     requires one_name { one.name ≡ L.name }
     requires one_parts { one.parts ≡ L.parts }
@@ -97,6 +118,7 @@ fn all<R: Abort + AllocGlobal + Files, L: Ledger, M: Ledger>(rt: &R, one: Blank,
     let mut applies = counter::<R, M>(rt, other);
     plans(rt, &mut steps, &mut applies);
     dues(rt, &mut steps, &mut applies);
+    maps(rt, &mut steps, &mut applies);
 }
 
 #[test]

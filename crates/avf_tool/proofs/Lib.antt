@@ -5,6 +5,7 @@ mod Deadness
 mod DueTold
 mod Flips
 mod Generated
+mod MapTold
 mod HarmlessBits
 mod Numerals
 mod Programs

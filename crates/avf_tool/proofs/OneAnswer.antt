@@ -24,13 +24,16 @@ use Rattle.strike_campaign.proofs.OneCampaign.{one_campaign}
 use Rattle.strike_campaign.specs.CampaignTexts.{campaign_text_of}
 use Rattle.avf_tool.specs.CampaignAnswers.{campaign_due}
 use Rattle.avf_tool.specs.declared.command.StrikesOfSeed.{StrikesOfSeed}
+use Rattle.class_map.proofs.OneMap.{one_map}
+use Rattle.class_map.specs.Written.{text_of}
 use Rattle.due_parity.specs.DueTexts.{due_text_of}
 use Rattle.avf_tool.specs.DueAnswers.{rows_due, structures_in}
+use Rattle.avf_tool.specs.MapAnswers.{map_due}
 use Rattle.avf_tool.proofs.DueTold.{one_rows}
 use Rattle.avf_tool.proofs.Flips.{same_verdict}
 use Rattle.avf_tool.specs.Words.{ImageJob, Job, OnImage, Bench, Assemble, bench_run}
 use Rattle.avf_tool.specs.declared.command.Task.{Task}
-use Rattle.avf_tool.specs.declared.command.Task.TheVariants.{Run, Dead, Report, Csv, Plan, Campaign, Due, Query, Flip}
+use Rattle.avf_tool.specs.declared.command.Task.TheVariants.{Run, Dead, Report, Csv, Plan, Campaign, Due, Map, Query, Flip}
 
 -- at most one answer is due
 HasOne : (Answer → Type 0) → Type 0
@@ -79,6 +82,10 @@ one_rows_due run structures a b h k =
     ∙ ap (λ rows. Text (due_text_of run.cycles rows))
     (one_rows (story_of run) h.0 k.0 (h.1.named ∙ sym k.1.named) h.1.each k.1.each) ∙ k.2
 
+one_map_due : (run : RecordedRun) → HasOne (map_due run)
+unfolding HasOne
+one_map_due run a b h k = sym h.2 ∙ ap (λ lines. Text (text_of (story_of run) lines)) (one_map (story_of run) h.0 k.0 h.1.all k.1.all) ∙ k.2
+
 one_task : (task : Task) (run : RecordedRun) → HasOne (task_answer task run)
 one_task Run run = one_only _
 one_task Dead run = one_only _
@@ -87,6 +94,7 @@ one_task Csv run = one_counts run report_csv_of
 one_task (Plan bits) run = one_plan_due run bits
 one_task (Campaign asked) run = one_campaign_due run asked
 one_task (Due protected) run = one_rows_due run (structures_in protected)
+one_task Map run = one_map_due run
 one_task (Query asked) run = one_place (place_in run asked) (class_due run asked.cycle) (one_class_due run asked.cycle)
 one_task (Flip asked) run = one_place (place_in run asked) (verdict_due run asked.cycle) (one_verdict_due run asked.cycle)
 

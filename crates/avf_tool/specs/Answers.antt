@@ -13,12 +13,13 @@ use Rattle.avf_tool.specs.BitAnswers.{flip_due, query_due}
 use Rattle.avf_tool.specs.CampaignAnswers.{campaign_due}
 use Rattle.avf_tool.specs.DueAnswers.{parity_due}
 use Rattle.avf_tool.specs.Due.{Answer, Text, Refused, only}
+use Rattle.avf_tool.specs.MapAnswers.{map_due}
 use Rattle.avf_tool.specs.Programs.{instructions_of}
 use Rattle.avf_tool.specs.ReportAnswers.{csv_due, plan_due, report_due}
 use Rattle.avf_tool.specs.Texts.{deadness_text, run_text}
 use Rattle.avf_tool.specs.Words.{ImageJob, Job, OnImage, Bench, Assemble, bench_run}
 use Rattle.avf_tool.specs.declared.command.Task.{Task}
-use Rattle.avf_tool.specs.declared.command.Task.TheVariants.{Run, Dead, Report, Csv, Plan, Campaign, Due, Query, Flip}
+use Rattle.avf_tool.specs.declared.command.Task.TheVariants.{Run, Dead, Report, Csv, Plan, Campaign, Due, Map, Query, Flip}
 use Rattle.avf_tool.specs.declared.stages.TheConstants.{IMAGE_LIMIT, TOO_LONG}
 
 -- the size of a machine's RAM, in bytes
@@ -54,6 +55,7 @@ task_answer Csv run = csv_due run
 task_answer (Plan bits) run = plan_due run bits
 task_answer (Campaign asked) run = campaign_due run asked
 task_answer (Due protected) run = parity_due run protected
+task_answer Map run = map_due run
 task_answer (Query asked) run = query_due run asked
 task_answer (Flip asked) run = flip_due run asked
 

@@ -5,7 +5,9 @@ pub mod Due
 pub mod DueAnswers
 pub mod Ends
 pub mod Jobs
+pub mod Kept
 pub mod Law
+pub mod MapAnswers
 pub mod Numbers
 pub mod Programs
 pub mod ReportAnswers

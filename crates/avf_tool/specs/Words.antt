@@ -18,7 +18,7 @@ use Rattle.avf_tool.specs.declared.command.BitInCycle.{BitInCycle}
 use Rattle.avf_tool.specs.declared.command.Protected.{Protected}
 use Rattle.avf_tool.specs.declared.command.Protected.TheVariants.{Registers, Data, Both}
 use Rattle.avf_tool.specs.declared.command.Task.{Task}
-use Rattle.avf_tool.specs.declared.command.Task.TheVariants.{Run, Dead, Report, Csv, Plan, Campaign, Due, Query, Flip}
+use Rattle.avf_tool.specs.declared.command.Task.TheVariants.{Run, Dead, Report, Csv, Plan, Campaign, Due, Map, Query, Flip}
 
 -- what is told of the run of an image: its file's name, the machine, and how many cycles the run may take
 pub record ImageJob : Type 0 where
@@ -100,6 +100,7 @@ tasks =
     ∷ record { name = codes "plan"; reads = plan_words }
     ∷ record { name = codes "campaign"; reads = campaign_words }
     ∷ record { name = codes "due"; reads = due_words }
+    ∷ record { name = codes "map"; reads = alone Map }
     ∷ record { name = codes "query"; reads = λ words. option_map Query (bit_words words) }
     ∷ record { name = codes "flip"; reads = λ words. option_map Flip (bit_words words) }
     ∷ []

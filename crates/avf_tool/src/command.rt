@@ -53,6 +53,8 @@ pub enum Task {
     Campaign(StrikesOfSeed),
     /// How many flips parity detects.
     Due(Protected),
+    /// All intervals of cycles in which a bit is un-ACE by one rule.
+    Map,
     /// The class of a bit in a cycle.
     Query(BitInCycle),
     /// What becomes of the run with a bit flipped before a cycle.
@@ -211,6 +213,7 @@ fn task_named(name: &str, words: &[String]) -> Option<Task>
         "plan" => plan_words(words),
         "campaign" => campaign_words(words),
         "due" => due_words(words),
+        "map" => alone(words, Task::Map),
         "query" => query_words(words),
         "flip" => flip_words(words),
         _ => None,

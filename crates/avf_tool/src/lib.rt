@@ -9,10 +9,12 @@ mod shape;
 // What a command answers.
 mod bits;
 mod campaigns;
+mod maps;
 mod parity;
 mod perform;
 mod reports;
 mod stages;
+mod text_sink;
 mod texts;
 
 // The top call.

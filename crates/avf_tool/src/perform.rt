@@ -11,6 +11,7 @@ ghost use Rattle.avf_tool.specs.Words.{Assemble, Bench, IsDoable, IsMakeable, Is
 use crate::bits::{flip_answer, query_answer};
 use crate::campaigns::campaign_answer;
 use crate::command::{BenchCommand, Command, ImageCommand, Task};
+use crate::maps::map_answer;
 use crate::parity::parity_answer;
 use crate::reports::{csv_answer, plan_answer, report_answer};
 use crate::stages::{
@@ -80,6 +81,7 @@ fn task_answer<L: Ledger, M: Ledger>(
         Task::Plan(bits) => plan_answer(alloc, bits, run, steps, applies),
         Task::Campaign(asked) => campaign_answer(alloc, &asked, run, steps, applies),
         Task::Due(protected) => parity_answer(alloc, protected, run, steps, applies),
+        Task::Map => map_answer(alloc, run, steps, applies),
         Task::Query(asked) => query_answer(alloc, &asked, run, steps, applies),
         Task::Flip(asked) => flip_answer(alloc, &asked, &run, steps),
     }
