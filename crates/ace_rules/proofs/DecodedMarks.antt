@@ -124,17 +124,17 @@ pc-at k l m = located-on idex.width _ _ k l ∙ located-here idex.width of_decod
 in-range : (k : ℕ) → (nat_le 1 k && nat_lt k 31) ≡ true → (1 ≤ k) × (k < 31)
 in-range k e = (grind (arith, nat_tests), grind (arith, nat_tests))
 
-in-three : (a b x : Bool) → (a && b) ≡ true → (a && (b && x)) ≡ x
+pub in-three : (a b x : Bool) → (a && b) ≡ true → (a && (b && x)) ≡ x
 in-three true true x e = refl
 in-three true false x e = absurd cc
 in-three false b x e = absurd cc
 
-out-three : (a b x : Bool) → (a && b) ≡ false → (a && (b && x)) ≡ false
+pub out-three : (a b x : Bool) → (a && b) ≡ false → (a && (b && x)) ≡ false
 out-three true true x e = absurd cc
 out-three true false x e = refl
 out-three false b x e = refl
 
-not-is : (b : Bool) → cond b false true ≡ not b
+pub not-is : (b : Bool) → cond b false true ≡ not b
 not-is true = refl
 not-is false = refl
 

@@ -20,6 +20,7 @@ use Rattle.ace_rules.specs.PipelineTests.{becomes_next}
 use Rattle.ace_rules.specs.RuleMasks.{first_of, is_next_bit, is_set}
 use Rattle.ace_rules.specs.declared.note.Note.{Note}
 use Rattle.ace_rules.specs.declared.tally_fetched.TheConstants.{SLOT_MASK, SLOT_PLACE, SLOT_UNUSED, SLOT_VALID}
+use Rattle.ace_rules.proofs.DecodedMarks.{in-three, not-is, out-three}
 use Rattle.ace_rules.proofs.FirstMasks.{is_rest}
 use Rattle.ace_rules.proofs.LatchMarks.{of}
 use Rattle.ace_rules.proofs.MarkedBits.{in_field, marks, when-set}
@@ -77,20 +78,6 @@ word-at k l m =
 
 in-range : (k : ℕ) → (nat_le 2 k && nat_lt k 32) ≡ true → (2 ≤ k) × (k < 32)
 in-range k e = (grind (arith, nat_tests), grind (arith, nat_tests))
-
-in-three : (a b x : Bool) → (a && b) ≡ true → (a && (b && x)) ≡ x
-in-three true true x e = refl
-in-three true false x e = absurd cc
-in-three false b x e = absurd cc
-
-out-three : (a b x : Bool) → (a && b) ≡ false → (a && (b && x)) ≡ false
-out-three true true x e = absurd cc
-out-three true false x e = refl
-out-three false b x e = refl
-
-not-is : (b : Bool) → cond b false true ≡ not b
-not-is true = refl
-not-is false = refl
 
 -- ---- each rule's bits
 
