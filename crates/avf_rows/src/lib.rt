@@ -2,6 +2,8 @@
 #![tactic(auto)]
 
 #[cfg(test)]
+mod check_rows;
+#[cfg(test)]
 mod fault_rows;
 #[cfg(test)]
 mod flip_rows;
