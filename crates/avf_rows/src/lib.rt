@@ -2,6 +2,8 @@
 #![tactic(auto)]
 
 #[cfg(test)]
+mod fate_rows;
+#[cfg(test)]
 mod fault_rows;
 #[cfg(test)]
 mod flip_rows;
@@ -17,3 +19,5 @@ mod report_rows;
 mod rows;
 #[cfg(test)]
 mod source_rows;
+#[cfg(test)]
+mod turn_rows;
