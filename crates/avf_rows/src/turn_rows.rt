@@ -88,9 +88,8 @@ fn writes_in_turn<R: Abort + AllocGlobal, L: Ledger, M: Ledger>(
     applies: &mut Steps<M>,
     line: &str,
     most: u32,
-)
-    requires { 0 < most }
-{
+) {
+    assert!(rt; most > 0);
     let calm = Faults {
         reads: &[],
         writes: &[],
