@@ -1,11 +1,12 @@
 -- Lists of changes: what a search among them finds, and what one more change does.
-use Rattle.std.proofs.Common.{◌≡◌, ℕ, zero, suc, ◌+◌, ◌-◌, ◌<◌, ◌≤◌, true, false, cond, leb, ltb, List, [], ◌∷◌, ◌++◌, length, get_or, take, refl, sym, ◌∙◌, ap, arith, inl, inr}
+use Rattle.std.proofs.Common.{◌≡◌, ℕ, zero, suc, ◌+◌, ◌-◌, ◌<◌, ◌≤◌, Bool, true, false, Option, Some, None, cond, leb, ltb, List, [], ◌∷◌, ◌++◌, length, get_or, take, refl, sym, ◌∙◌, ap, arith, inl, inr}
 use Rattle.std.specs.List.{AllWithin}
+use Rattle.std.specs.Prelude.{option_map}
 use Rattle.std.specs.List.Sorted.{IsPartitionedBy}
 use Rattle.std.proofs.lemmas.Bool.{cases_lt}
 use Rattle.std.proofs.lemmas.List.{get_or-take, length-take-le, length_push, get_or_push, get_or_append_left}
 use Rattle.std.proofs.lemmas.Bool.Decides.{nat_tests}
-use Rattle.need_pass.specs.Histories.{mask_after, mask_at, IsFalling}
+use Rattle.need_pass.specs.Histories.{IsFalling, IsUpTo, change_after, mask_after, mask_at, until_at}
 use Rattle.need_pass.specs.declared.history.Change.{Change}
 
 pub falling_from : (xs : List Change) (i : ℕ) → IsFalling xs → IsPartitionedBy (λ c. leb i c.at) xs
@@ -22,22 +23,76 @@ falling_above xs i falls a b d l h t =
       | inr m ↦ let e : a ≡ b = omega arith in rw e t
     ]
 
--- the mask where no change stands at i or later
-pub none_from : (m : ℕ) (xs : List Change) (i : ℕ) → AllWithin (λ c. leb i c.at ≡ false) xs 0 (length xs) → mask_after m xs i ≡ m
-unfolding mask_after
-none_from m [] i h = refl
-none_from m (c ∷ cs) i h = let e : leb i c.at ≡ false = h 0 c (omega arith) (omega arith) in rw e refl
+-- no change stands at i or later
+pub none_from : (last : Option Change) (xs : List Change) (i : ℕ) → AllWithin (λ c. leb i c.at ≡ false) xs 0 (length xs) → change_after last xs i ≡ last
+unfolding change_after
+none_from last [] i h = refl
+none_from last (c ∷ cs) i h = let e : leb i c.at ≡ false = h 0 c (omega arith) (omega arith) in rw e refl
 
--- the mask where change k is the last that does
-pub last_from : (m : ℕ) (xs : List Change) (i k : ℕ) (d : Change) → k < length xs → AllWithin (λ c. leb i c.at ≡ true) xs 0 (k + 1) → AllWithin (λ c. leb i c.at ≡ false) xs (k + 1) (length xs) → mask_after m xs i ≡ (get_or xs k d).mask
-unfolding mask_after
-last_from m [] i k d l h n = absurd (omega arith)
-last_from m (c ∷ cs) i zero d l h n =
+-- change k is the last that does
+pub last_from : (last : Option Change) (xs : List Change) (i k : ℕ) (d : Change) → k < length xs → AllWithin (λ c. leb i c.at ≡ true) xs 0 (k + 1)
+    → AllWithin (λ c. leb i c.at ≡ false) xs (k + 1) (length xs) → change_after last xs i ≡ Some (get_or xs k d)
+unfolding change_after
+last_from last [] i k d l h n = absurd (omega arith)
+last_from last (c ∷ cs) i zero d l h n =
     let e : leb i c.at ≡ true = h 0 c (omega arith) (omega arith) in
-    rw e (none_from c.mask cs i (λ a e p q. n (suc a) e (omega arith) (omega arith)))
-last_from m (c ∷ cs) i (suc k) d l h n =
+    rw e (none_from (Some c) cs i (λ a e p q. n (suc a) e (omega arith) (omega arith)))
+last_from last (c ∷ cs) i (suc k) d l h n =
     let e : leb i c.at ≡ true = h 0 c (omega arith) (omega arith) in
-    rw e (last_from c.mask cs i k d (omega arith) (λ a e p q. h (suc a) e (omega arith) (omega arith)) (λ a e p q. n (suc a) e (omega arith) (omega arith)))
+    rw e (last_from (Some c) cs i k d (omega arith) (λ a e p q. h (suc a) e (omega arith) (omega arith)) (λ a e p q. n (suc a) e (omega arith) (omega arith)))
+
+-- the mask is that of the last change
+abbrev mask_of : Option Change → ℕ
+mask_of None = 0
+mask_of (Some c) = c.mask
+
+mask-after : (m : ℕ) (last : Option Change) (xs : List Change) (i : ℕ) → m ≡ mask_of last → mask_after m xs i ≡ mask_of (change_after last xs i)
+unfolding mask_after change_after
+mask-after m last [] i h = h
+mask-after m last (c ∷ cs) i h = go (leb i c.at) (mask-after c.mask (Some c) cs i refl)
+  where
+    go : (b : Bool) → mask_after c.mask cs i ≡ mask_of (change_after (Some c) cs i)
+        → cond b (mask_after c.mask cs i) m ≡ mask_of (cond b (change_after (Some c) cs i) last)
+    go true rest = rest
+    go false rest = h
+
+pub mask_some : (xs : List Change) (i : ℕ) (c : Change) → change_after None xs i ≡ Some c → mask_at xs i ≡ c.mask
+mask_some xs i c h = mask-after 0 None xs i refl ∙ ap mask_of h
+
+pub mask_none : (xs : List Change) (i : ℕ) → change_after None xs i ≡ None → mask_at xs i ≡ 0
+mask_none xs i h = mask-after 0 None xs i refl ∙ ap mask_of h
+
+-- and stays so up to where that change stands
+later-falls : (c : Change) (cs : List Change) → IsFalling (c ∷ cs) → IsFalling cs
+later-falls c cs falls i j d l m = falls (suc i) (suc j) d (omega (arith, l)) (omega (arith, m))
+
+up-to : (c : Change) (cs : List Change) (i k : ℕ) → IsFalling (c ∷ cs) → IsUpTo k (option_map (λ c. c.at) (change_after (Some c) cs i)) → k ≤ c.at
+unfolding change_after
+up-to c [] i k falls h = h
+up-to c (x ∷ xs) i k falls h = go (leb i x.at) (up-to x xs i k (later-falls c (x ∷ xs) falls)) h
+  where
+    go : (b : Bool) → (IsUpTo k (option_map (λ c. c.at) (change_after (Some x) xs i)) → k ≤ x.at)
+        → IsUpTo k (option_map (λ c. c.at) (cond b (change_after (Some x) xs i) (Some c))) → k ≤ c.at
+    go true rest h = let below : x.at < c.at = falls 0 1 x (omega arith) (omega arith) in let l = rest h in omega (arith, below, l)
+    go false rest h = h
+
+same-after : (m : ℕ) (last : Option Change) (xs : List Change) (i k : ℕ) → IsFalling xs → i ≤ k
+    → IsUpTo k (option_map (λ c. c.at) (change_after last xs i)) → mask_after m xs k ≡ mask_after m xs i
+unfolding mask_after change_after
+same-after m last [] i k falls l h = refl
+same-after m last (c ∷ cs) i k falls l h = go (leb i c.at) refl (same-after c.mask (Some c) cs i k (later-falls c cs falls) l) h
+  where
+    go : (b : Bool) → leb i c.at ≡ b
+        → (IsUpTo k (option_map (λ c. c.at) (change_after (Some c) cs i)) → mask_after c.mask cs k ≡ mask_after c.mask cs i) → IsUpTo k (option_map (λ c. c.at) (cond b (change_after (Some c) cs i) last))
+        → cond (leb k c.at) (mask_after c.mask cs k) m ≡ cond (leb i c.at) (mask_after c.mask cs i) m
+    go true e rest h =
+        let below : k ≤ c.at = up-to c cs i k falls h in
+        let at : leb k c.at ≡ true = grind (arith, nat_tests) in
+        rw (at, e) (rest h)
+    go false e rest h = let at : leb k c.at ≡ false = grind (arith, nat_tests) in rw (at, e) refl
+
+pub same_until : (xs : List Change) (i k : ℕ) → IsFalling xs → i ≤ k → IsUpTo k (until_at xs i) → mask_at xs k ≡ mask_at xs i
+same_until xs i k falls l h = same-after 0 None xs i k falls l h
 
 -- the changes that stand above `at` alone
 pub kept_later : (m : ℕ) (xs : List Change) (at i n : ℕ) → at < i → AllWithin (λ c. ltb at c.at ≡ false) xs n (length xs) → mask_after m (take n xs) i ≡ mask_after m xs i
@@ -118,7 +173,9 @@ set_kept old ys at mask above later same i =
 -- each change stands at instruction 0 or later
 pub earliest_some : (xs : List Change) (c : Change) → 0 < length xs → c ≡ get_or xs (length xs - 1) c → c.mask ≡ mask_at xs 0
 earliest_some xs c l e =
-    ap (λ (x : Change). x.mask) e ∙ sym (last_from 0 xs 0 (length xs - 1) c (omega arith) (λ k d p q. grind (arith, nat_tests)) (λ k d p q. absurd (omega arith)))
+    ap (λ (x : Change). x.mask) e
+    ∙ sym (mask_some xs 0 (get_or xs (length xs - 1) c)
+    (last_from None xs 0 (length xs - 1) c (omega arith) (λ k d p q. grind (arith, nat_tests)) (λ k d p q. absurd (omega arith))))
 
 pub earliest_none : (xs : List Change) → length xs ≤ 0 → 0 ≡ mask_at xs 0
-earliest_none xs l = sym (none_from 0 xs 0 (λ k d p q. absurd (omega arith)))
+earliest_none xs l = sym (mask_none xs 0 (none_from None xs 0 (λ k d p q. absurd (omega arith))))

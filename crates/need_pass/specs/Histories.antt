@@ -1,5 +1,5 @@
 -- The need of one register or byte over a run, as the instructions at which it changes.
-use Rattle.std.specs.Prelude.{ℕ, ◌<◌, List, [], ◌∷◌, length, nat_le, slice_index_or, if◌then◌else◌}
+use Rattle.std.specs.Prelude.{⊤, ℕ, ◌<◌, ◌≤◌, List, [], ◌∷◌, length, nat_le, slice_index_or, Option, Some, None, option_map, if◌then◌else◌}
 use Rattle.std.specs.BTreeMap.{is_at}
 use Rattle.std.specs.Map.{lookup}
 use Rattle.std.specs.Option.{unwrap_or}
@@ -15,6 +15,20 @@ mask_after mask (change ∷ earlier) i = if nat_le i change.at then mask_after c
 -- nothing is needed after the last change
 abbrev pub mask_at : List Change → ℕ → ℕ
 mask_at changes i = mask_after 0 changes i
+
+-- the last change that stands at instruction i or later, and `last` where there is none
+unfoldable pub change_after : Option Change → List Change → ℕ → Option Change
+change_after last [] i = last
+change_after last (change ∷ earlier) i = if nat_le i change.at then change_after (Some change) earlier i else last
+
+-- the last instruction up to and with which the mask is that before instruction i, none where it is so for ever
+abbrev pub until_at : List Change → ℕ → Option ℕ
+until_at changes i = option_map (λ change. change.at) (change_after None changes i)
+
+-- instruction k isn't behind the last one, if there is a last one
+abbrev pub IsUpTo : ℕ → Option ℕ → Type 0
+IsUpTo k None = ⊤
+IsUpTo k (Some last) = k ≤ last
 
 -- each change stands at an earlier instruction than the one before it
 abbrev pub IsFalling : List Change → Type 0

@@ -1,8 +1,8 @@
 -- The needs of a whole run, as the program keeps them, and what they promise.
-use Rattle.std.specs.Prelude.{◌≡◌, ◌↔◌, ℕ, ◌-◌, ◌%◌, ◌^◌, ◌<◌, List, [], length, drop, slice_index_or}
+use Rattle.std.specs.Prelude.{◌≡◌, ◌↔◌, ℕ, ◌-◌, ◌%◌, ◌^◌, ◌<◌, List, [], Option, length, drop, slice_index_or}
 use Rattle.std.specs.Int.{bit_at}
 use Rattle.rv_isa.specs.declared.effect.Retired.{Retired}
-use Rattle.need_pass.specs.Histories.{mask_at, changes_of}
+use Rattle.need_pass.specs.Histories.{changes_of, mask_at, until_at}
 use Rattle.need_pass.specs.Needed.{Needed}
 use Rattle.need_pass.specs.ProgramBits.{ProgramBit, Register, Byte}
 use Rattle.need_pass.specs.declared.history.Change.{Change}
@@ -33,6 +33,10 @@ reg_need needs r i = register_mask needs.registers r i
 -- the needed bits of the byte at address p before instruction i
 unfoldable pub byte_need : Needs → ℕ → ℕ → ℕ
 byte_need needs p i = byte_mask needs.bytes p i % 2 ^ 8
+
+-- the last instruction up to and with which they stay those before instruction i, none where they stay for ever
+abbrev pub byte_until : Needs → ℕ → ℕ → Option ℕ
+byte_until needs p i = until_at (changes_of needs.bytes p) i
 
 -- The needs are those of the run with these instructions: a bit is set exactly where it is needed by the instructions from i on.
 -- Nothing is needed after the last.

@@ -1,11 +1,11 @@
 // The needs of the bytes that a run accesses.
-ghost use Rattle.need_pass.specs.Histories.{changes_of, mask_at};
+ghost use Rattle.need_pass.specs.Histories.{IsUpTo, changes_of, mask_at, until_at};
 ghost use Rattle.need_pass.specs.Links.{byte_number, has_byte, loads, stored_bytes, stores};
 ghost use Rattle.need_pass.specs.Masks.{IsMaskOf};
 ghost use Rattle.need_pass.specs.Tables.{byte_mask};
 ghost use Rattle.rv_table.specs.Accesses.{byte_of};
 ghost use Rattle.std.specs.Int.{bit_at};
-ghost use Rattle.std.specs.Prelude.{OnOk, Some, bit_or, nat_le, nat_lt, true, ◌&&◌, ◌*◌, ◌+◌, ◌-◌, ◌<◌, ◌==◌, ◌^◌, ◌↔◌, ◌≡◌, ℕ, if◌then◌else◌};
+ghost use Rattle.std.specs.Prelude.{OnOk, Some, bit_or, nat_le, nat_lt, true, ◌&&◌, ◌*◌, ◌+◌, ◌-◌, ◌<◌, ◌≤◌, ◌==◌, ◌^◌, ◌↔◌, ◌≡◌, ℕ, if◌then◌else◌};
 
 use crate::history::History;
 use avf_base::OutOfMemory;
@@ -21,6 +21,19 @@ pub fn byte_at(histories: &BTreeMap<u32, History>, addr: u32, i: u32) -> u32
     match histories.get(&addr) {
         Some(history) => history.at(i),
         None => 0,
+    }
+}
+
+/// The last instruction up to and with which the needed bits of the byte at `addr` stay those before instruction `i`, none where they stay
+/// for ever.
+#[tactic(auto, unfolding(crate::specs::Histories::mask_after, crate::specs::Histories::change_after))]
+pub fn byte_until(histories: &BTreeMap<u32, History>, addr: u32, i: u32) -> Option<u32>
+    ensures last { result ≡ until_at (changes_of histories.now.entries addr) i }
+    ensures same { (k : ℕ) → i ≤ k → IsUpTo k result → byte_mask histories.now.entries addr k ≡ byte_mask histories.now.entries addr i }
+{
+    match histories.get(&addr) {
+        Some(history) => history.until(i),
+        None => None,
     }
 }
 

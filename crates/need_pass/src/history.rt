@@ -1,6 +1,6 @@
 // The need of one register or byte over a run.
-ghost use Rattle.need_pass.specs.Histories.{IsFalling, mask_at};
-ghost use Rattle.std.specs.Prelude.{[], List, OnOk, length, nat_le, nat_lt, true, ◌<◌, ◌≡◌, ℕ, if◌then◌else◌};
+ghost use Rattle.need_pass.specs.Histories.{IsFalling, IsUpTo, change_after, mask_at, until_at};
+ghost use Rattle.std.specs.Prelude.{[], List, None, OnOk, length, nat_le, nat_lt, true, ◌<◌, ◌≡◌, ◌≤◌, ℕ, if◌then◌else◌};
 ghost use Rattle.std.specs.List.{AllWithin};
 
 use avf_base::OutOfMemory;
@@ -43,15 +43,37 @@ impl History {
         }
     }
 
+    /// The last change that stands at instruction `i` or later.
+    fn last_change(&self, i: u32) -> Option<Change>
+        ensures change { result ≡ change_after None self.now i }
+        ensures falls { IsFalling self.now }
+    {
+        let count = self.changes.partition_point(|change| i <= change.at);
+        if count == 0 {
+            None
+        } else {
+            Some(self.changes[count - 1])
+        }
+    }
+
     /// The needed bits before instruction `i`.
     pub fn at(&self, i: u32) -> u32
         ensures { result ≡ mask_at self.now i }
     {
-        let count = self.changes.partition_point(|change| i <= change.at);
-        if count == 0 {
-            0
-        } else {
-            self.changes[count - 1].mask
+        match self.last_change(i) {
+            Some(change) => change.mask,
+            None => 0,
+        }
+    }
+
+    /// The last instruction up to and with which the needed bits stay those before instruction `i`, none where they stay for ever.
+    pub fn until(&self, i: u32) -> Option<u32>
+        ensures last { result ≡ until_at self.now i }
+        ensures same { (k : ℕ) → i ≤ k → IsUpTo k result → mask_at self.now k ≡ mask_at self.now i }
+    {
+        match self.last_change(i) {
+            Some(change) => Some(change.at),
+            None => None,
         }
     }
 

@@ -1,11 +1,12 @@
 // The needs of a run, to be looked up.
+ghost use Rattle.need_pass.specs.Histories.{IsUpTo};
 ghost use Rattle.need_pass.specs.Tables as tables;
 ghost use Rattle.need_pass.specs.Tables.{IsNeedOf};
 ghost use Rattle.need_pass.specs.Law.{HasNeedLaw};
 ghost use Rattle.need_pass.specs.NeedFacts.{NeedFacts};
-ghost use Rattle.std.specs.Prelude.{IfOk, [], replicate, ◌<◌, ◌≡◌, ◌≤◌};
+ghost use Rattle.std.specs.Prelude.{IfOk, [], ℕ, replicate, ◌<◌, ◌≡◌, ◌≤◌};
 
-use crate::byte_histories::byte_at;
+use crate::byte_histories::{byte_at, byte_until};
 use crate::history::History;
 use crate::pass::step_back;
 use crate::register_histories::register_at;
@@ -61,6 +62,16 @@ impl NeedTable {
         ensures { result ≡ tables.byte_need self.now addr i }
     {
         (byte_at(&self.bytes, addr, i) & 0xff) as u8
+    }
+
+    /// The last instruction up to and with which the needed bits of the byte at a byte address stay those before instruction `i`, none
+    /// where they stay for ever.
+    #[tactic(auto, unfolding(crate::specs::Tables::byte_need))]
+    pub fn byte_need_until(&self, addr: u32, i: u32) -> Option<u32>
+        ensures last { result ≡ tables.byte_until self.now addr i }
+        ensures same { (k : ℕ) → i ≤ k → IsUpTo k result → tables.byte_need self.now addr k ≡ tables.byte_need self.now addr i }
+    {
+        byte_until(&self.bytes, addr, i)
     }
 }
 

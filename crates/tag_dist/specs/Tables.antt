@@ -1,5 +1,5 @@
 -- The lists that a run leaves, by line and by line slot, and what they answer.
-use Rattle.std.specs.Prelude.{◌≡◌, ℕ, ◌<◌, Bool, true, false, nat_le, List, [], Option, Some, None, length, slice_index_or, All}
+use Rattle.std.specs.Prelude.{◌≡◌, ⊤, ℕ, ◌<◌, ◌≤◌, min, Bool, true, false, nat_le, List, [], Option, Some, None, length, slice_index_or, All}
 use Rattle.std.specs.BTreeMap.{is_at}
 use Rattle.std.specs.Map.{lookup}
 use Rattle.std.specs.Option.{unwrap_or}
@@ -41,6 +41,21 @@ comes_by (Some cycle) (Some fill) = nat_le cycle fill
 
 unfoldable pub looked_up_in : Tables → ℕ → ℕ → ℕ → Bool
 looked_up_in table l line t = comes_by (first_asked table.asked line t) (first_from t (slice_index_or table.filled l []))
+
+-- the earlier of two cycles, where they come
+abbrev pub earlier : Option ℕ → Option ℕ → Option ℕ
+earlier None other = other
+earlier (Some cycle) None = Some cycle
+earlier (Some cycle) (Some other) = Some (min cycle other)
+
+-- the first cycle from t on in which a line is asked for or line slot l is filled
+unfoldable pub next_asked : Tables → ℕ → ℕ → ℕ → Option ℕ
+next_asked table l line t = earlier (first_asked table.asked line t) (first_from t (slice_index_or table.filled l []))
+
+-- cycle u isn't behind another one, if that comes
+abbrev pub IsBy : ℕ → Option ℕ → Type 0
+IsBy u None = ⊤
+IsBy u (Some cycle) = u ≤ cycle
 
 -- there is a list for each line slot, and all lists are in rising order
 pub record IsTables (table : Tables) : Type 0 where

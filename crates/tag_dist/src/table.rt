@@ -1,10 +1,10 @@
 // The look-ups and accesses of a run, to be asked for.
-ghost use Rattle.std.specs.Prelude.{◌≡◌, ◌<◌, IfOk};
+ghost use Rattle.std.specs.Prelude.{◌≡◌, ◌<◌, ◌≤◌, ℕ, IfOk};
 ghost use Rattle.bit_field.specs.Shapes.{IsShape};
 ghost use Rattle.wb_cache.specs.Contents.{slot_of};
 ghost use Rattle.event_log.specs.Events.{IsEventLog};
 ghost use Rattle.tag_dist.specs.Tables as tables;
-ghost use Rattle.tag_dist.specs.Tables.{IsTableOf};
+ghost use Rattle.tag_dist.specs.Tables.{IsBy, IsTableOf};
 
 use crate::accesses::last_accesses;
 use crate::lookups::{asked_lines, filled_slots};
@@ -57,6 +57,29 @@ impl TagTable {
         let asked = first_asked(&self.asked, line, t);
         comes_by(asked, self.filled[slot].first_from(t))
     }
+
+    /// The first cycle from `t` on in which a line is asked for, or the line slot of a way of a set is filled.
+    #[tactic(auto, unfolding(crate::specs::Tables::next_asked))]
+    fn asked_or_filled(&self, set: u32, way: u32, line: u32, t: u32) -> Option<u32>
+        requires set { set < self.now.shape.sets }
+        requires way { way < self.now.shape.ways }
+        ensures { result ≡ tables.next_asked self.now (slot_of self.now.shape set way) line t }
+    {
+        let slot = slot_number(&self.shape, set, way) as usize;
+        let asked = first_asked(&self.asked, line, t);
+        earlier(asked, self.filled[slot].first_from(t))
+    }
+
+    /// The first cycle from `t` on in which the cache looks a line up, or fills the line slot of a way of a set; none where neither comes.
+    /// Up to and with that cycle `looked_up` answers the same. It takes no memory.
+    pub fn next_asked(&self, set: u32, way: u32, line: u32, t: u32) -> Option<u32>
+        requires set { set < self.now.shape.sets }
+        requires way { way < self.now.shape.ways }
+        ensures next { result ≡ tables.next_asked self.now (slot_of self.now.shape set way) line t }
+        ensures same { (u : ℕ) → t ≤ u → IsBy u result → tables.looked_up_in self.now (slot_of self.now.shape set way) line u ≡ tables.looked_up_in self.now (slot_of self.now.shape set way) line t }
+    {
+        self.asked_or_filled(set, way, line, t)
+    }
 }
 
 /// The first cycle from `t` on in which a line is asked for.
@@ -68,6 +91,17 @@ fn first_asked(asked: &BTreeMap<u32, CycleList>, line: u32, t: u32) -> Option<u3
     match asked.get(&line) {
         Some(cycles) => cycles.first_from(t),
         None => None,
+    }
+}
+
+/// The earlier of two cycles, where they come.
+fn earlier(cycle: Option<u32>, other: Option<u32>) -> Option<u32>
+    ensures { result ≡ tables.earlier cycle other }
+{
+    match (cycle, other) {
+        (None, _) => other,
+        (Some(_), None) => cycle,
+        (Some(cycle), Some(other)) => Some(cycle.min(other)),
     }
 }
 

@@ -1,21 +1,9 @@
-use Rattle.std.proofs.Common.{◌≡◌, ℕ, ◌-◌, leb, sym, ◌∙◌, ap, subst, get_or, arith, rules}
-use Rattle.std.proofs.lemmas.List.Sorted.{IsPartitionPoint-from_clause}
-use Rattle.need_pass.proofs.Histories.{falling_from, none_from, last_from}
-use Rattle.need_pass.specs.Histories.{mask_at, IsFalling}
+use Rattle.std.proofs.Common.{sym, ◌∙◌}
+use Rattle.need_pass.proofs.Histories.{mask_none, mask_some}
 use Rattle.need_pass.proofs.history.History.at.Goals as goal
 
-pub returns-then-count-eq0 : goal.returns-then-count-eq0
-returns-then-count-eq0 c =
-    let e : c.deref.result.now ≡ c.args.self.now = c.deref.ensures.value ∙ c.self.view_is in
-    let falls : IsFalling c.deref.result.now = subst IsFalling (sym c.deref.ensures.value) c.self.invariant in
-    let point = IsPartitionPoint-from_clause (λ x. leb c.args.i x.at) c.deref.result.now _ c.partition_point-count.ensures.partitioned (falling_from c.deref.result.now c.args.i falls) (λ a r q k. search rules) in
-    sym (ap (λ xs. mask_at xs c.args.i) (sym e) ∙ none_from 0 c.deref.result.now c.args.i (λ k d p q. point.1 k d (omega arith) q))
+pub returns-in-Some : goal.returns-in-Some
+returns-in-Some c = sym (mask_some c.args.self.now c.args.i c.in-Some.change (sym c.last_change.ensures.change ∙ c.in-Some.is))
 
-pub returns-else-count-eq0 : goal.returns-else-count-eq0
-returns-else-count-eq0 c =
-    let e : c.deref.result.now ≡ c.args.self.now = c.deref.ensures.value ∙ c.self.view_is in
-    let falls : IsFalling c.deref.result.now = subst IsFalling (sym c.deref.ensures.value) c.self.invariant in
-    let point = IsPartitionPoint-from_clause (λ x. leb c.args.i x.at) c.deref.result.now _ c.partition_point-count.ensures.partitioned (falling_from c.deref.result.now c.args.i falls) (λ a r q k. search rules) in
-    let k : ℕ = c.partition_point-count.result - 1 in
-    let found = last_from 0 c.deref.result.now c.args.i k c.index.result.now (omega (arith, c.partition_point-count.ensures.bound)) (λ j d p q. point.0 j d p (omega arith)) (λ j d p q. point.1 j d (omega arith) q) in
-    ap (λ x. x.mask) (c.index.ensures ∙ ap (λ xs. get_or xs k c.index.result.now) (sym c.deref.ensures.value)) ∙ sym found ∙ ap (λ xs. mask_at xs c.args.i) e
+pub returns-in-None : goal.returns-in-None
+returns-in-None c = sym (mask_none c.args.self.now c.args.i (sym c.last_change.ensures.change ∙ c.in-None.is))
