@@ -4,6 +4,8 @@
 #[cfg(test)]
 mod check_rows;
 #[cfg(test)]
+mod fate_rows;
+#[cfg(test)]
 mod fault_rows;
 #[cfg(test)]
 mod flip_rows;
@@ -19,3 +21,5 @@ mod report_rows;
 mod rows;
 #[cfg(test)]
 mod source_rows;
+#[cfg(test)]
+mod turn_rows;

@@ -1,5 +1,6 @@
 // Rows over files in memory that never fail.
-ghost use Rattle.std.specs.Prelude.{◌≡◌, ◌<◌};
+ghost use Rattle.std.specs.Prelude.{◌≡◌, ◌<◌, IfOk};
+ghost use Rattle.avf_tool.specs.Ends.{IsNoFault};
 
 use crate::images::{changed, two_headers, zeros};
 use avf_base::{OutOfMemory, PlainShelf, PlainSink, Steps, counter};
@@ -28,7 +29,7 @@ pub struct Given {
     pub err: PlainSink,
 }
 
-// The words over a shelf on which this name holds the file.
+// The words over a shelf on which this name holds the file. The shelf and the sinks never fail, so no status tells of a fault.
 pub fn call<L: Ledger, M: Ledger>(
     alloc: Global,
     words: &[String],
@@ -36,7 +37,9 @@ pub fn call<L: Ledger, M: Ledger>(
     file: &[u8],
     steps: &mut Steps<L>,
     applies: &mut Steps<M>,
-) -> Result<Given, OutOfMemory> {
+) -> Result<Given, OutOfMemory>
+    ensures { IfOk result (λ given. IsNoFault given.status) }
+{
     let mut shelf = PlainShelf::new(alloc);
     shelf.put(name, file)?;
     let mut out = PlainSink::new(alloc, 4096)?;

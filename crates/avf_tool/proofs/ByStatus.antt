@@ -1,12 +1,13 @@
 -- How a call ends, read by its status.
-use Rattle.std.proofs.Common.{◌≡◌, ◌≢◌, ℕ, List, Option, None, Some, IfSome, Result, Ok, Err, rules, refl, sym, ap, ◌∙◌, subst, inl, inr, arith}
+use Rattle.std.proofs.Common.{◌≡◌, ◌≢◌, ◌≤◌, ℕ, List, Option, None, Some, IfSome, Result, Ok, Err, rules, refl, sym, ap, ◌∙◌, subst, inl, inr, arith}
+use Rattle.avf_base.specs.Causes.{Rose}
 use Rattle.avf_base.specs.Moves.{Grows}
 use Rattle.avf_base.specs.Refusals.{status_of}
 use Rattle.avf_base.specs.declared.refusal.Refusal.{Refusal}
 use Rattle.avf_base.specs.declared.refusal.Refusal.TheVariants.{Usage, ReadFault, BadImage, NoEnd, NoSuchBit, WriteFault, OutOfMemory, BadSource, BadMap}
 use Rattle.avf_tool.specs.Answers.{answer}
 use Rattle.avf_tool.specs.Due.{Answer, Text, Refused}
-use Rattle.avf_tool.specs.Ends.{Comes, Serves, Says, Ends, ByStatus, Due, Faults, Use, status_due}
+use Rattle.avf_tool.specs.Ends.{Comes, Serves, Says, Ends, ByStatus, Due, Faults, IsNoFault, NeverFails, Rise, Use, faults_of, status_due}
 use Rattle.avf_tool.specs.Told.{told_to}
 use Rattle.avf_tool.specs.Words.{Job}
 use Rattle.avf_tool.proofs.OneAnswer.{one_answer}
@@ -142,3 +143,23 @@ ended (Some job) holds shelf out err (Err OutOfMemory) h status s =
 pub by_status : (asked : Option Job) (holds : List ℕ → Option (List ℕ)) (shelf : Faults) (out err : Use) (status : ℕ)
     → Ends asked holds shelf out err status → ByStatus asked holds shelf out err status
 by_status asked holds shelf out err status h = ended asked holds shelf out err h.0 h.1 status h.2
+
+-- a count that is always 0 never rises
+never_rises : {S : Type 0} (count : S → ℕ) (old new : S) → NeverFails count → Rise (faults_of count old new) → ⊥
+never_rises count old new never rise =
+    let was : Rose 0 (count new) = subst (λ n. Rose n (count new)) (never old) rise in
+    let is : Rose 0 0 = subst (Rose 0) (never new) was in
+    let least : 1 ≤ 0 = is in
+    omega (arith, least)
+
+-- where no count of faults can rise, no status of a fault comes
+pub no_fault : {S T : Type 0} (reads : S → ℕ) (writes : T → ℕ) (asked : Option Job) (holds : List ℕ → Option (List ℕ)) (shelf later : S) (before now : T)
+    (old new : Option (List ℕ)) (err : Use) (status : ℕ)
+    → Ends asked holds (faults_of reads shelf later) (record { old = old; new = new; faults = faults_of writes before now }) err status
+    → NeverFails reads → NeverFails writes → IsNoFault status
+no_fault reads writes asked holds shelf later before now old new err status h shelf_never out_never =
+    let b = by_status asked holds _ _ err status h in
+    record {
+      no_read_fault = λ e. never_rises reads shelf later shelf_never (b.read_fault e);
+      no_write_fault = λ e. never_rises writes before now out_never (b.write_fault e);
+    }

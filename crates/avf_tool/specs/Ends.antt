@@ -100,3 +100,12 @@ pub record ByStatus (asked : Option Job) (holds : List ℕ → Option (List ℕ)
   -- a command that meets no fault is answered by what is due, or by want of memory
   pub complete : (job : Job) (contents : List ℕ) (due : Answer) → asked ≡ Some job → told_to job holds ≡ Some contents → answer job holds contents due
       → (Rise shelf → ⊥) → (Rise out.faults → ⊥) → (status ≡ status_due due) ⊎ (status ≡ 8)
+
+-- a count of faults that is always 0, as that of a shelf or a sink of which no call fails
+abbrev pub NeverFails : {S : Type 0} → (S → ℕ) → Type 0
+NeverFails {S} count = (s : S) → count s ≡ 0
+
+-- neither the status of a read fault nor that of a write fault
+pub record IsNoFault (status : ℕ) : Type 0 where
+  pub no_read_fault : status ≢ 3
+  pub no_write_fault : status ≢ 7

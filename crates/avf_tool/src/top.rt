@@ -1,7 +1,7 @@
 // The top call.
 ghost use Rattle.std.specs.Prelude.{◌≡◌, ◌⊎◌, ◌-◌, List, ℕ, IfOk, string_bytes};
 ghost use Rattle.avf_base.specs.Refusals.{line_of};
-ghost use Rattle.avf_tool.specs.Ends.{ByStatus, Ends, MayTell, Serves, TookLine, faults_of, use_of};
+ghost use Rattle.avf_tool.specs.Ends.{ByStatus, Ends, IsNoFault, MayTell, NeverFails, Serves, TookLine, faults_of, use_of};
 ghost use Rattle.avf_tool.specs.Law.{MapLaw, ProgramLaw};
 ghost use Rattle.avf_tool.specs.Words.{command_of, texts};
 ghost use Rattle.avf_tool.specs.Work.{Works};
@@ -132,6 +132,8 @@ pub fn run_tool<H: Shelf, O: Sink, E: Sink, L: Ledger, M: Ledger>(
         (use_of O.taken O.faults out.old out.new) (use_of E.taken E.faults err.old err.new) result }
     ensures by_status { ByStatus (command_of (texts words.now)) (H.holds shelf.old) (faults_of H.faults shelf.old shelf.new)
         (use_of O.taken O.faults out.old out.new) (use_of E.taken E.faults err.old err.new) result }
+    // Over files and a standard output that never fail.
+    ensures plain { NeverFails H.faults → NeverFails O.faults → IsNoFault result }
     ensures keeps { (n : List ℕ) → H.holds shelf.new n ≡ H.holds shelf.old n }
     ensures programs { ProgramLaw }
     ensures maps { MapLaw }
