@@ -37,7 +37,13 @@ pub mod Tallies
 mod Popcounts
 mod FirstMasks
 mod NextStays
+mod Retiring
+mod NewStores
+mod StoringInstructions
+mod AccessesToCome
+mod StayingParts
 mod Staying
+mod KeptFacts
 mod Intervals
 mod MarkedBits
 mod LatchMarks

@@ -92,7 +92,7 @@ get-none [] i l = refl
 get-none (x ∷ xs) zero l = absurd (omega (arith, l))
 get-none (x ∷ xs) (suc i) l = get-none xs i (omega (arith, l))
 
-get-within : (xs : List Note) (i : ℕ) (x : Note) → slice_get xs i ≡ Some x → i < length xs
+pub get-within : (xs : List Note) (i : ℕ) (x : Note) → slice_get xs i ≡ Some x → i < length xs
 get-within [] i x h = absurd cc
 get-within (x ∷ xs) zero y h = omega arith
 get-within (x ∷ xs) (suc i) y h = let l = get-within xs i y h in omega (arith, l)
@@ -103,7 +103,7 @@ le-decides m n = (λ h. grind (arith, nat_tests), λ l. grind (arith, nat_tests)
 -- ---- dead bits of a dirty line
 
 module _ (a : Moment) (table : Needs) (note : Note) (is : IsTold a.r a.run table) (noted : IsNote a table note) (k : ℕ) where
-  pending-is : (p : ℕ) → Decides (written_from note.stores 0 p) (IsPending a p)
+  pub pending-is : (p : ℕ) → Decides (written_from note.stores 0 p) (IsPending a p)
   pending-is p =
       let e : written_from note.stores 0 p ≡ is_some (found (pending (state a).stores) (p / 4) (p % 4)) =
       ap (λ (stores : List Entry). written_from stores 0 p) noted.stores ∙ ap is_some (sym (found-pending (state a).stores (p / 4) (p % 4))) in

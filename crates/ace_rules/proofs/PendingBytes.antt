@@ -9,7 +9,7 @@ use Rattle.store_buf.specs.Pending.{slot_of}
 use Rattle.ace_law.specs.MemoryRules.{writes}
 use Rattle.ace_rules.specs.Asked.{written_from}
 
-held-writes : (o : Option ℕ) (e : Entry) (p : ℕ) → is_some (option_or o (held e (p / 4) (p % 4))) ≡ (writes e p || is_some o)
+pub held-writes : (o : Option ℕ) (e : Entry) (p : ℕ) → is_some (option_or o (held e (p / 4) (p % 4))) ≡ (writes e p || is_some o)
 unfolding held
 held-writes o e p = go (writes e p) o
   where

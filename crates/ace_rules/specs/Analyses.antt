@@ -28,9 +28,10 @@ pub record IsAnalysis (story : Story) (table : Needs) (notes : List Note) (words
   pub held : IsSlotTable story.r.events story.r.shape slots
 
 -- it is kept of some run whose record this is
-pub record IsSomeAnalysis (r : RecordedRun) (table : Needs) (notes : List Note) (words : List ℕ) (quiet : ℕ) (life : Lives) (tags : Tables)
+pub record IsSomeAnalysis (r : RecordedRun) (table : Needs) (notes : List Note) (quiet : ℕ) (life : Lives) (tags : Tables)
     (slots : Histories) : Type 0 where
   pub story : Story
+  pub words : List ℕ
   pub record_is : story.r ≡ r
   pub kept : IsAnalysis story table notes words quiet life tags slots
 

@@ -48,7 +48,7 @@ fn goes_to(store: &Pending, line: u32) -> bool
 
 /// Whether a store to a line waits in the store buffer.
 #[tactic(auto, unfolding(crate::specs::Asked::is_pending_line))]
-fn is_pending_line(stores: &StoreBuf, line: u32) -> bool
+pub(crate) fn is_pending_line(stores: &StoreBuf, line: u32) -> bool
     ensures { result ≡ asked.is_pending_line stores.now line }
 {
     goes_to(&stores.slot(0), line)
@@ -59,7 +59,7 @@ fn is_pending_line(stores: &StoreBuf, line: u32) -> bool
 
 /// Whether there is such an instruction, and `first` is not behind it.
 #[tactic(auto, unfolding(crate::specs::Asked::is_later))]
-fn is_later(instruction: Option<u32>, first: u32) -> bool
+pub(crate) fn is_later(instruction: Option<u32>, first: u32) -> bool
     ensures { result ≡ asked.is_later instruction first }
 {
     match instruction {

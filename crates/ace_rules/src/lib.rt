@@ -7,7 +7,7 @@
 // - first_rule: the class of a bit by the first of the rules that holds;
 // - timing, registers, next, latches, fetched: the classes of the pipeline's bits;
 // - classes: the class of any bit; until, stays: how long a bit keeps its class;
-// - later: what instructions that haven't left the memory stage need and access;
+// - later: what instructions that haven't left the memory stage need and access; progress: how long they do;
 // - pending: the classes of the bits of the store buffer;
 // - lines, line_data: the classes of the bits of line slots;
 // - tally: how many bits have each class, by masks of the rules; tally_latches, tally_decoded, tally_fetched, tally_registers,
@@ -26,6 +26,7 @@ mod next;
 mod note;
 mod path;
 mod pending;
+mod progress;
 mod registers;
 mod situation;
 mod stays;

@@ -20,8 +20,11 @@ impl Analysis<'_> {
         let cycles = self.recorded.cycles();
         let until = stays_until(
             &self.recorded,
+            &self.needs,
+            &self.notes,
             self.quiet,
             &self.life,
+            &self.tags,
             &self.slots,
             place,
             cycle,
