@@ -1,6 +1,6 @@
 -- What later cycles of a run still access: a line that isn't accessed again stays so, and a byte that is needed throughout doesn't
 -- become pending.
-use Rattle.std.proofs.Common.{◌≡◌, ◌⊎◌, ◌/◌, ◌%◌, ◌≤◌, ◌<◌, zero, suc, ℕ, Bool, true, false, List, [], ◌∷◌, Some, is_some, slice_get, drop}
+use Rattle.std.proofs.Common.{◌≡◌, ◌⊎◌, ◌/◌, ◌%◌, ◌≤◌, ◌<◌, zero, suc, ℕ, Bool, true, List, [], ◌∷◌, Some, is_some, slice_get, drop}
 use Rattle.std.proofs.Common.{arith, refl, sym, ap, subst, ◌∙◌, inl, inr, ◌||◌}
 use Rattle.std.proofs.Math.Bool.{or-true}
 use Rattle.std.proofs.lemmas.Bool.{cases_eq, or_cases}
