@@ -2,6 +2,8 @@
 #![tactic(auto)]
 
 #[cfg(test)]
+mod check_rows;
+#[cfg(test)]
 mod fate_rows;
 #[cfg(test)]
 mod fault_rows;

@@ -8,24 +8,25 @@ use Rattle.avf_base.specs.declared.refusal.Refusal.TheVariants.{Usage, ReadFault
 use Rattle.avf_tool.specs.Answers.{answer}
 use Rattle.avf_tool.specs.Due.{Answer, Text, Refused}
 use Rattle.avf_tool.specs.Ends.{Comes, Serves, Says, Ends, ByStatus, Due, Faults, IsNoFault, NeverFails, Rise, Use, faults_of, status_due}
-use Rattle.avf_tool.specs.Words.{Job, told_to}
+use Rattle.avf_tool.specs.Told.{told_to}
+use Rattle.avf_tool.specs.Words.{Job}
 use Rattle.avf_tool.proofs.OneAnswer.{one_answer}
 
 -- where the contents are told, what is due is what they give
 told : (job : Job) (holds : List ℕ → Option (List ℕ)) (contents : List ℕ) (due : Answer) → told_to job holds ≡ Some contents → Due job holds due
-    → answer job contents due
-told job holds contents due e h = subst (λ o. IfSome o (λ c. answer job c due)) e h
+    → answer job holds contents due
+told job holds contents due e h = subst (λ o. IfSome o (λ c. answer job holds c due)) e h
 
 same_job : (job j : Job) (holds : List ℕ → Option (List ℕ)) (contents : List ℕ) (due : Answer) → Some job ≡ Some j → told_to j holds ≡ Some contents
-    → Due job holds due → answer j contents due
+    → Due job holds due → answer j holds contents due
 same_job job j holds contents due s e h =
     let P : Option Job → Type 0 = λ o. IfSome o (λ i. Due i holds due) in
     told j holds contents due e (subst P s h)
 
 -- what is due to the job is this
 same_due : (job j : Job) (holds : List ℕ → Option (List ℕ)) (contents : List ℕ) (due other : Answer) → Some job ≡ Some j → told_to j holds ≡ Some contents
-    → Due job holds due → answer j contents other → due ≡ other
-same_due job j holds contents due other s e h is = one_answer j contents due other (same_job job j holds contents due s e h) is
+    → Due job holds due → answer j holds contents other → due ≡ other
+same_due job j holds contents due other s e h is = one_answer j holds contents due other (same_job job j holds contents due s e h) is
 
 same_text : (a b : List ℕ) (old new : Option (List ℕ)) → Text a ≡ Text b → Grows old new a → Grows old new b
 same_text a b old new e h = let e' : a ≡ b = cc in subst (Grows old new) e' h

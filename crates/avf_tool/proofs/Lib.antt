@@ -1,6 +1,7 @@
 mod ByStatus
 mod CampaignTold
 mod Chains
+mod CheckTold
 mod Deadness
 mod DueTold
 mod Flips
@@ -22,3 +23,4 @@ mod OneAnswer
 mod Queries
 mod ShortWords
 mod Work
+mod WrittenMaps

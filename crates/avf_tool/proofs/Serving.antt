@@ -5,10 +5,12 @@ use Rattle.avf_base.specs.Moves.{Grows, GrowsByFront}
 use Rattle.avf_base.specs.Refusals.{Cause, ByWords, ByShelf, ByContents, ByOut, Free, cause_of}
 use Rattle.avf_base.specs.declared.refusal.Refusal.{Refusal}
 use Rattle.avf_base.specs.declared.refusal.Refusal.TheVariants.{WriteFault}
+use Rattle.avf_tool.specs.Answers.{answer}
 use Rattle.avf_tool.specs.Due.{Text}
 use Rattle.avf_tool.specs.Ends.{Comes, ComesBy, Due, Faults, Rise, Serves, TookNothing, Use}
 use Rattle.avf_tool.specs.Stages.{Performed}
-use Rattle.avf_tool.specs.Words.{Job, told_to}
+use Rattle.avf_tool.specs.Told.{told_to}
+use Rattle.avf_tool.specs.Words.{Job}
 
 module _ (asked : Option Job) (job : Job) (holds : List ℕ → Option (List ℕ)) (shelf : Faults) (out : Use) (is : asked ≡ Some job) where
   -- its text was taken
@@ -21,7 +23,7 @@ module _ (asked : Option Job) (job : Job) (holds : List ℕ → Option (List ℕ
   fault_serves text due rise front =
       let P : Option Job → Type 0 = λ o. Comes o holds shelf out WriteFault in subst P (sym is) (text, due, rise, front)
 
-  comes_by : (cause : Cause) (r : Refusal) → Performed cause job (told_to job holds) shelf.before shelf.now r → TookNothing out
+  comes_by : (cause : Cause) (r : Refusal) → Performed cause (answer job holds) (told_to job holds) shelf.before shelf.now r → TookNothing out
       → ComesBy cause job holds shelf out r
   comes_by ByContents r h none = (h, none)
   comes_by ByShelf r h none = (h, none)
@@ -29,14 +31,14 @@ module _ (asked : Option Job) (job : Job) (holds : List ℕ → Option (List ℕ
   comes_by ByWords r h none = h
   comes_by ByOut r h none = absurd h
 
-  refusal_comes : (r : Refusal) → Performed (cause_of r) job (told_to job holds) shelf.before shelf.now r → TookNothing out
+  refusal_comes : (r : Refusal) → Performed (cause_of r) (answer job holds) (told_to job holds) shelf.before shelf.now r → TookNothing out
       → Serves asked holds shelf out (Err r)
   refusal_comes r h none =
       let P : Option Job → Type 0 = λ o. Serves o holds shelf out (Err r) in subst P (sym is) (comes_by (cause_of r) r h none)
 
   -- it was refused
   pub refusal_serves : (r : Refusal) (result : Result (Unit {0}) Refusal) → IsErrAnd result (λ e. e ≡ r)
-      → Performed (cause_of r) job (told_to job holds) shelf.before shelf.now r → TookNothing out → Serves asked holds shelf out result
+      → Performed (cause_of r) (answer job holds) (told_to job holds) shelf.before shelf.now r → TookNothing out → Serves asked holds shelf out result
   refusal_serves r (Ok done) e h none = absurd e
   refusal_serves r (Err other) e h none =
       let P : Refusal → Type 0 = λ x. Serves asked holds shelf out (Err x) in subst P (sym e) (refusal_comes r h none)

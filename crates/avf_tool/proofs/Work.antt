@@ -5,7 +5,8 @@ use Rattle.elf_load.specs.Meaning.{image_of}
 use Rattle.run_record.specs.Run.{RecordedRun}
 use Rattle.run_record.specs.Within.{record_within}
 use Rattle.avf_tool.specs.Answers.{ram_size}
-use Rattle.avf_tool.specs.Words.{ImageJob, Job, told_to}
+use Rattle.avf_tool.specs.Told.{told_to}
+use Rattle.avf_tool.specs.Words.{ImageJob, Job}
 use Rattle.avf_tool.specs.Work.{IsFew, IsFewFor, WorkOf, Works, run_of, tells_of_one_run}
 
 some_is : {A : Type 0} (o : Option A) (x y : A) → o ≡ Some x → o ≡ Some y → x ≡ y

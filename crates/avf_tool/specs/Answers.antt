@@ -11,13 +11,14 @@ use Rattle.rv_asm.specs.Sources.{assembled, fault_in, number_of}
 use Rattle.rv_asm.specs.declared.fault.Fault.{Fault}
 use Rattle.avf_tool.specs.BitAnswers.{flip_due, query_due}
 use Rattle.avf_tool.specs.CampaignAnswers.{campaign_due}
+use Rattle.avf_tool.specs.CheckAnswers.{check_due}
 use Rattle.avf_tool.specs.DueAnswers.{parity_due}
 use Rattle.avf_tool.specs.Due.{Answer, Text, Refused, only}
 use Rattle.avf_tool.specs.MapAnswers.{map_due}
 use Rattle.avf_tool.specs.Programs.{instructions_of}
 use Rattle.avf_tool.specs.ReportAnswers.{csv_due, plan_due, report_due}
 use Rattle.avf_tool.specs.Texts.{deadness_text, run_text}
-use Rattle.avf_tool.specs.Words.{ImageJob, Job, OnImage, Bench, Assemble, bench_run}
+use Rattle.avf_tool.specs.Words.{CheckJob, ImageJob, Job, OnImage, Bench, CheckMap, Assemble, bench_run}
 use Rattle.avf_tool.specs.declared.command.Task.{Task}
 use Rattle.avf_tool.specs.declared.command.Task.TheVariants.{Run, Dead, Report, Csv, Plan, Campaign, Due, Map, Query, Flip}
 use Rattle.avf_tool.specs.declared.stages.TheConstants.{IMAGE_LIMIT, TOO_LONG}
@@ -67,12 +68,20 @@ unless_faulty None next = next
 abbrev pub source_answer : List ℕ → Answer
 source_answer source = unless_faulty (fault_in source) (Text (assembled source))
 
+abbrev pub source_due : List ℕ → Answer → Type 0
+source_due source = only (source_answer source)
+
 -- what is told of the run of the image that these contents mean
 abbrev pub image_answer : ImageJob → List ℕ → Answer → Type 0
 image_answer job contents = on_image job.shape contents (on_run job.shape job.budget (task_answer job.task))
 
--- which answers are due to a command that works on these contents: there is one
-abbrev pub answer : Job → List ℕ → Answer → Type 0
-answer (OnImage job) contents = image_answer job contents
-answer (Bench job) contents = image_answer (bench_run job) contents
-answer (Assemble name) contents = only (source_answer contents)
+-- what a map says, judged by the run of the image that these contents mean
+abbrev pub check_answer : CheckJob → Option (List ℕ) → List ℕ → Answer → Type 0
+check_answer job map contents = on_image job.shape contents (on_run job.shape job.budget (check_due map))
+
+-- Which answers are due to a command that works on these contents: there is one. A further file holds what `holds` tells.
+abbrev pub answer : Job → (List ℕ → Option (List ℕ)) → List ℕ → Answer → Type 0
+answer (OnImage job) holds contents = image_answer job contents
+answer (Bench job) holds contents = image_answer (bench_run job) contents
+answer (CheckMap job) holds contents = check_answer job (holds job.map) contents
+answer (Assemble name) holds contents = source_due contents

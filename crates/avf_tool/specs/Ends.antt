@@ -7,7 +7,8 @@ use Rattle.avf_base.specs.declared.refusal.Refusal.{Refusal}
 use Rattle.avf_base.specs.declared.refusal.Refusal.TheVariants.{Usage, BadImage, BadSource, BadMap, OutOfMemory}
 use Rattle.avf_tool.specs.Answers.{answer}
 use Rattle.avf_tool.specs.Due.{Answer, Text, Refused}
-use Rattle.avf_tool.specs.Words.{Job, told_to}
+use Rattle.avf_tool.specs.Told.{told_to}
+use Rattle.avf_tool.specs.Words.{Job}
 
 -- a count of faults, before a call and after it
 pub record Faults : Type 0 where
@@ -38,9 +39,9 @@ pub record TookLine (line : List ℕ) (sink : Use) : Type 0 where
   pub front : GrowsByFront sink.old sink.new line
   pub whole : (Rise sink.faults → ⊥) → Grows sink.old sink.new line
 
--- this is due to a job whose file holds what is told
+-- this is due to a job whose files hold what is told
 abbrev pub Due : Job → (List ℕ → Option (List ℕ)) → Answer → Type 0
-Due job holds due = IfSome (told_to job holds) (λ contents. answer job contents due)
+Due job holds due = IfSome (told_to job holds) (λ contents. answer job holds contents due)
 
 -- When a refusal comes, and what `out` took then.
 abbrev pub ComesBy : Cause → Job → (List ℕ → Option (List ℕ)) → Faults → Use → Refusal → Type 0
@@ -89,15 +90,15 @@ pub record ByStatus (asked : Option Job) (holds : List ℕ → Option (List ℕ)
   pub read_fault : status ≡ 3 → Rise shelf
   pub write_fault : status ≡ 7 → Rise out.faults
   -- each other status but 8 is the one that the contents are due
-  pub due : (job : Job) (contents : List ℕ) (due : Answer) → asked ≡ Some job → told_to job holds ≡ Some contents → answer job contents due
+  pub due : (job : Job) (contents : List ℕ) (due : Answer) → asked ≡ Some job → told_to job holds ≡ Some contents → answer job holds contents due
       → (status ≡ status_due due) ⊎ ((status ≡ 3) ⊎ ((status ≡ 7) ⊎ (status ≡ 8)))
   -- the text is written, and at every status but 0 and 7 nothing
-  pub text : (job : Job) (contents text : List ℕ) → status ≡ 0 → asked ≡ Some job → told_to job holds ≡ Some contents → answer job contents (Text text)
+  pub text : (job : Job) (contents text : List ℕ) → status ≡ 0 → asked ≡ Some job → told_to job holds ≡ Some contents → answer job holds contents (Text text)
       → Grows out.old out.new text
   pub nothing : status ≢ 0 → status ≢ 7 → TookNothing out
   pub silent : status ≡ 0 → TookNothing err
   -- a command that meets no fault is answered by what is due, or by want of memory
-  pub complete : (job : Job) (contents : List ℕ) (due : Answer) → asked ≡ Some job → told_to job holds ≡ Some contents → answer job contents due
+  pub complete : (job : Job) (contents : List ℕ) (due : Answer) → asked ≡ Some job → told_to job holds ≡ Some contents → answer job holds contents due
       → (Rise shelf → ⊥) → (Rise out.faults → ⊥) → (status ≡ status_due due) ⊎ (status ≡ 8)
 
 -- a count of faults that is always 0, as that of a shelf or a sink of which no call fails

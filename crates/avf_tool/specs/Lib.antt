@@ -1,6 +1,7 @@
 pub mod Answers
 pub mod BitAnswers
 pub mod CampaignAnswers
+pub mod CheckAnswers
 pub mod Due
 pub mod DueAnswers
 pub mod Ends
@@ -13,5 +14,6 @@ pub mod Programs
 pub mod ReportAnswers
 pub mod Stages
 pub mod Texts
+pub mod Told
 pub mod Words
 pub mod Work

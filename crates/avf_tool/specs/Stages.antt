@@ -12,11 +12,10 @@ use Rattle.elf_load.specs.Refusal.{first_refusal}
 use Rattle.rv_isa.specs.Runs.{ProgramTrace, IsTrace}
 use Rattle.run_record.specs.Run.{RecordedRun}
 use Rattle.run_record.specs.Within.{record_within}
-use Rattle.avf_tool.specs.Answers.{answer, ram_size}
+use Rattle.avf_tool.specs.Answers.{ram_size}
 use Rattle.avf_tool.specs.Due.{Answer, Text, Refused}
 use Rattle.run_log.specs.Answers.{IsProgram}
 use Rattle.avf_tool.specs.Texts.{deadness_text}
-use Rattle.avf_tool.specs.Words.{Job}
 
 -- why a file wasn't read, where a longer one is refused so
 abbrev pub WasRead : Cause → Refusal → ℕ → Option (List ℕ) → ℕ → ℕ → Refusal → Type 0
@@ -81,15 +80,16 @@ abbrev pub IsText : (Answer → Type 0) → Result (Vec ℕ Global) Refusal → 
 IsText due (Ok text) = due (Text text.items)
 IsText due (Err refusal) = WorkedOut (cause_of refusal) due refusal
 
--- How a command is refused. `known` is what its file holds, where that is told, and the two numbers are the shelf's faults.
-abbrev pub Performed : Cause → Job → Option (List ℕ) → ℕ → ℕ → Refusal → Type 0
-Performed ByContents job known before now refusal = IfSome known (λ contents. answer job contents (Refused refusal))
-Performed ByShelf job known before now refusal = Rose before now
-Performed Free job known before now refusal = ⊤
-Performed ByWords job known before now refusal = ⊥
-Performed ByOut job known before now refusal = ⊥
+-- How a command is refused. `due` is what is due for each contents of its file, `known` what it holds, where that is told, and the two
+-- numbers are the shelf's faults.
+abbrev pub Performed : Cause → (List ℕ → Answer → Type 0) → Option (List ℕ) → ℕ → ℕ → Refusal → Type 0
+Performed ByContents due known before now refusal = IfSome known (λ contents. due contents (Refused refusal))
+Performed ByShelf due known before now refusal = Rose before now
+Performed Free due known before now refusal = ⊤
+Performed ByWords due known before now refusal = ⊥
+Performed ByOut due known before now refusal = ⊥
 
 -- what a command gives
-abbrev pub Answers : Job → Option (List ℕ) → ℕ → ℕ → Result (Vec ℕ Global) Refusal → Type 0
-Answers job known before now (Ok text) = IfSome known (λ contents. answer job contents (Text text.items))
-Answers job known before now (Err refusal) = Performed (cause_of refusal) job known before now refusal
+abbrev pub Answers : (List ℕ → Answer → Type 0) → Option (List ℕ) → ℕ → ℕ → Result (Vec ℕ Global) Refusal → Type 0
+Answers due known before now (Ok text) = IfSome known (λ contents. due contents (Text text.items))
+Answers due known before now (Err refusal) = Performed (cause_of refusal) due known before now refusal

@@ -80,6 +80,10 @@ verdict_text (Same cycles) = concat (codes "same " ∷ decimal cycles ∷ codes 
 verdict_text (Differs cycle) = concat (codes "differs " ∷ decimal cycle ∷ codes "\n" ∷ [])
 verdict_text (NoEnd cycle) = concat (codes "noend " ∷ decimal cycle ∷ codes "\n" ∷ [])
 
+-- `check`: how many pairs of a bit and a cycle a map says to be un-ACE, all of them rightly
+abbrev pub accepted_text : ℕ → List ℕ
+accepted_text pairs = concat (codes "accepted " ∷ decimal pairs ∷ codes "\n" ∷ [])
+
 -- `query`: the class of a bit, un-ACE with the number of its rule
 abbrev pub class_text : Class → List ℕ
 class_text Ace = codes "ace\n"

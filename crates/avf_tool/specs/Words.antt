@@ -1,6 +1,6 @@
 -- Which words are which command.
 use Rattle.std.specs.Prelude.{◌≤◌, ◌^◌, ◌-◌, ⊤, ℕ, List, [], ◌∷◌, length, Option, None, Some, String, string_bytes, map, codes, bytes_eq}
-use Rattle.std.specs.Prelude.{nat_lt, ◌==◌, if◌then◌else◌}
+use Rattle.std.specs.Prelude.{nat_lt, ◌==◌, ◌&&◌, if◌then◌else◌}
 use Rattle.std.specs.List.{find}
 use Rattle.std.specs.Option.{option_and_then, option_map}
 use Rattle.std.specs.declared.alloc.Global.{Global}
@@ -9,7 +9,6 @@ use Rattle.bit_field.specs.Names.{name_of}
 use Rattle.bit_field.specs.declared.places.Structure.{Structure}
 use Rattle.bit_field.specs.declared.shapes.Shape.{Shape}
 use Rattle.ace_class.specs.Counts.{structures}
-use Rattle.img_gen.specs.Program.{generated}
 use Rattle.img_gen.specs.declared.generator.TheConstants.{MAX_SIZE}
 use Rattle.run_record.specs.declared.recorded.TheConstants.{LONGEST_RUN}
 use Rattle.strike_campaign.specs.declared.striking.TheConstants.{MOST_STRIKES}
@@ -33,11 +32,20 @@ pub record BenchJob : Type 0 where
   pub number : ℕ
   pub size : ℕ
 
+-- a map that is checked against the run of an image: the files' names, the machine, and how many cycles the run may take
+pub record CheckJob : Type 0 where
+  pub shape : Shape
+  pub image : List ℕ
+  pub budget : ℕ
+  pub map : List ℕ
+
 -- A command with its arguments. One that isn't about the run of an image in a file has a case of its own here.
 pub data Job : Type 0 where
   OnImage : ImageJob → Job
   -- `bench`: the report of a generated program
   Bench : BenchJob → Job
+  -- `check`: whether what a map says of the run of an image is so
+  CheckMap : CheckJob → Job
   -- `asm`: the file of the source that the file of a name holds
   Assemble : List ℕ → Job
 
@@ -128,9 +136,23 @@ bench_job shape (count ∷ size ∷ []) =
     option_and_then (λ n. option_map (λ s. Bench (record { shape = shape; number = n; size = s })) (number 1 MAX_SIZE size)) (number 0 (2 ^ 64 - 1) count)
 bench_job shape _ = None
 
+-- IMAGE BUDGET MAP: any words that aren't empty, and a number of cycles that a run may take
+abbrev pub check_named : Shape → List ℕ → List ℕ → List ℕ → Option Job
+check_named shape image budget map =
+    if nat_lt 0 (length image) && nat_lt 0 (length map)
+    then option_map (λ n. CheckMap (record { shape = shape; image = image; budget = n; map = map })) (number 1 LONGEST_RUN budget)
+    else None
+
+abbrev pub check_job : Shape → List (List ℕ) → Option Job
+check_job shape (image ∷ budget ∷ map ∷ []) = check_named shape image budget map
+check_job shape _ = None
+
 -- a command on a machine of a shape
 abbrev pub command_on : Shape → List (List ℕ) → Option Job
-command_on shape (name ∷ words) = if bytes_eq name (codes "bench") then bench_job shape words else task_job shape name words
+command_on shape (name ∷ words) =
+    if bytes_eq name (codes "bench") then bench_job shape words
+    else if bytes_eq name (codes "check") then check_job shape words
+    else task_job shape name words
 command_on shape [] = None
 
 -- SETS: 16, 32, 64 or 128
@@ -176,11 +198,9 @@ texts words = map string_bytes words
 abbrev pub bench_run : BenchJob → ImageJob
 bench_run job = record { shape = job.shape; image = []; budget = LONGEST_RUN; task = Report }
 
--- what a command works on, where that is told: what it reads, or what it generates
-abbrev pub told_to : Job → (List ℕ → Option (List ℕ)) → Option (List ℕ)
-told_to (OnImage job) holds = holds job.image
-told_to (Bench job) holds = Some (generated job.number job.size)
-told_to (Assemble source) holds = holds source
+-- the map of the run that a map is checked against
+abbrev pub own_map : CheckJob → ImageJob
+own_map job = record { shape = job.shape; image = job.image; budget = job.budget; task = Map }
 
 -- a task whose numbers are in their ranges
 abbrev pub IsTask : Task → Type 0
@@ -203,4 +223,5 @@ pub record IsMakeable (job : BenchJob) : Type 0 where
 abbrev pub IsDoable : Job → Type 0
 IsDoable (OnImage job) = IsRunnable job
 IsDoable (Bench job) = IsMakeable job
+IsDoable (CheckMap job) = IsRunnable (own_map job)
 IsDoable (Assemble source) = ⊤

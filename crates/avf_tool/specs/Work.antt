@@ -4,7 +4,8 @@ use Rattle.elf_load.specs.Meaning.{image_of}
 use Rattle.run_record.specs.Run.{RecordedRun}
 use Rattle.run_record.specs.Within.{record_within}
 use Rattle.avf_tool.specs.Answers.{ram_size}
-use Rattle.avf_tool.specs.Words.{ImageJob, Job, OnImage, Bench, Assemble, bench_run, told_to}
+use Rattle.avf_tool.specs.Told.{told_to}
+use Rattle.avf_tool.specs.Words.{ImageJob, Job, OnImage, Bench, CheckMap, Assemble, bench_run, own_map}
 use Rattle.avf_tool.specs.declared.command.Task.{Task}
 use Rattle.avf_tool.specs.declared.command.Task.TheVariants.{Campaign, Flip}
 
@@ -29,6 +30,7 @@ IsFew job contents steps applies =
 abbrev pub run_of : Job → Option ImageJob
 run_of (OnImage job) = Some job
 run_of (Bench job) = Some (bench_run job)
+run_of (CheckMap job) = Some (own_map job)
 run_of (Assemble name) = None
 
 -- the work of a job that works on what is told

@@ -2,7 +2,7 @@
 ghost use Rattle.std.specs.Prelude.{◌≡◌, MatchOption, IfSome, Some, None, option_map};
 ghost use Rattle.bit_field.specs.Shapes.{IsShape};
 ghost use Rattle.avf_tool.specs.Words as asked;
-ghost use Rattle.avf_tool.specs.Words.{IsDoable, IsTask, asm_job, bit_words, campaign_words, due_words, protected_named, command_of, command_on, plan_words, structure_of, task_in, task_job, tasks, texts, with_job, word_number};
+ghost use Rattle.avf_tool.specs.Words.{IsDoable, IsTask, asm_job, bit_words, campaign_words, check_job, check_named, due_words, protected_named, command_of, command_on, plan_words, structure_of, task_in, task_job, tasks, texts, with_job, word_number};
 ghost use Rattle.avf_tool.specs.Jobs.{job_of};
 
 use crate::numbers::number;
@@ -79,6 +79,16 @@ pub struct BenchCommand {
     pub size: u32,
 }
 
+/// A map that is checked against the run of an image: the machine's shape, the name of the file that has the image, how many cycles
+/// the run may take, and the name of the file that has the map.
+#[derive(Clone, Copy)]
+pub struct CheckCommand<'a> {
+    pub shape: Shape,
+    pub image: &'a str,
+    pub budget: u32,
+    pub map: &'a str,
+}
+
 /// A command with its arguments.
 #[derive(Clone, Copy)]
 pub enum Command<'a> {
@@ -86,6 +96,8 @@ pub enum Command<'a> {
     Image(ImageCommand<'a>),
     /// It tells of the run of a generated program.
     Generated(BenchCommand),
+    /// It checks a map against the run of an image.
+    Check(CheckCommand<'a>),
     /// It assembles the source in the file of this name.
     Assembly(&'a str),
 }
@@ -273,6 +285,35 @@ fn bench_command<'a>(shape: Shape, words: &'a [String]) -> Option<Command<'a>>
     }
 }
 
+fn check_named<'a>(shape: Shape, image: &'a str, budget: &str, map: &'a str) -> Option<Command<'a>>
+    requires { IsShape shape }
+    ensures is { MatchOption result (check_named shape image.now budget.now map.now ≡ None) (λ c. check_named shape image.now budget.now map.now ≡ Some (job_of c)) }
+    ensures does { IfSome result (λ c. IsDoable (job_of c)) }
+{
+    if image.is_empty() || map.is_empty() {
+        return None;
+    }
+    let budget = number(budget, 1, u64::from(LONGEST_RUN))?;
+    Some(Command::Check(CheckCommand {
+        shape,
+        image,
+        budget: budget as u32,
+        map,
+    }))
+}
+
+// IMAGE BUDGET MAP.
+fn check_command<'a>(shape: Shape, words: &'a [String]) -> Option<Command<'a>>
+    requires { IsShape shape }
+    ensures is { MatchOption result (check_job shape (texts words.now) ≡ None) (λ c. check_job shape (texts words.now) ≡ Some (job_of c)) }
+    ensures does { IfSome result (λ c. IsDoable (job_of c)) }
+{
+    match words {
+        [image, budget, map] => check_named(shape, image.as_str(), budget.as_str(), map.as_str()),
+        _ => None,
+    }
+}
+
 // The command that these words are, on a machine of this shape.
 fn command_on(shape: Shape, words: &[String]) -> Option<Command<'_>>
     requires { IsShape shape }
@@ -283,6 +324,8 @@ fn command_on(shape: Shape, words: &[String]) -> Option<Command<'_>>
         [name, args @ ..] => {
             if name.as_str() == "bench" {
                 bench_command(shape, args)
+            } else if name.as_str() == "check" {
+                check_command(shape, args)
             } else {
                 task_command(shape, name.as_str(), args)
             }

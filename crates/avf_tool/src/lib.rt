@@ -9,6 +9,7 @@ mod shape;
 // What a command answers.
 mod bits;
 mod campaigns;
+mod checks;
 mod maps;
 mod parity;
 mod perform;

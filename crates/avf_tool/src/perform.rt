@@ -1,15 +1,17 @@
 // What each command answers.
 ghost use Rattle.std.specs.Prelude.{◌≡◌, ◌≤◌, ◌+◌, ◌-◌, ◌*◌, List, ℕ, Some, true, length};
-ghost use Rattle.avf_tool.specs.Answers.{answer, image_answer, task_answer};
+ghost use Rattle.avf_tool.specs.Answers.{answer, image_answer, source_due, task_answer};
 ghost use Rattle.avf_tool.specs.Jobs.{bench_job_of, image_job_of, job_of};
 ghost use Rattle.img_gen.specs.Program.{generated};
 ghost use Rattle.run_log.specs.Answers.{IsProgram};
 ghost use Rattle.avf_tool.specs.Stages.{Answers, IsDeadText, IsText};
+ghost use Rattle.avf_tool.specs.Told.{told_to};
 ghost use Rattle.avf_tool.specs.Work.{IsFew, WorkOf, tells_of_one_run};
-ghost use Rattle.avf_tool.specs.Words.{Assemble, Bench, IsDoable, IsMakeable, IsTask, IsRunnable, OnImage, bench_run, told_to};
+ghost use Rattle.avf_tool.specs.Words.{Bench, IsDoable, IsMakeable, IsTask, IsRunnable, OnImage, bench_run};
 
 use crate::bits::{flip_answer, query_answer};
 use crate::campaigns::campaign_answer;
+use crate::checks::check_file;
 use crate::command::{BenchCommand, Command, ImageCommand, Task};
 use crate::maps::map_answer;
 use crate::parity::parity_answer;
@@ -114,7 +116,7 @@ fn tell_image<H: Shelf, L: Ledger, M: Ledger>(
     applies: &mut Steps<M>,
 ) -> Result<Vec<u8>, Refusal>
     requires { IsRunnable (image_job_of command.now) }
-    ensures answer { Answers (OnImage (image_job_of command.now)) (H.holds shelf.old command.now.image.now) (H.faults shelf.old) (H.faults shelf.new) result }
+    ensures answer { Answers (image_answer (image_job_of command.now)) (H.holds shelf.old command.now.image.now) (H.faults shelf.old) (H.faults shelf.new) result }
     ensures keeps { (n : List ℕ) → H.holds shelf.new n ≡ H.holds shelf.old n }
     ensures later { H.faults shelf.old ≤ H.faults shelf.new }
     ensures work { WorkOf (OnImage (image_job_of command.now)) (H.holds shelf.old command.now.image.now) (steps.new - steps.old) (applies.new - applies.old) }
@@ -145,7 +147,7 @@ fn tell_generated<L: Ledger, M: Ledger>(
     applies: &mut Steps<M>,
 ) -> Result<Vec<u8>, Refusal>
     requires { IsMakeable (bench_job_of bench.now) }
-    ensures text { IsText (answer (Bench (bench_job_of bench.now)) (generated bench.now.number bench.now.size)) result }
+    ensures text { IsText (image_answer (bench_run (bench_job_of bench.now)) (generated bench.now.number bench.now.size)) result }
     ensures work { WorkOf (Bench (bench_job_of bench.now)) (Some (generated bench.now.number bench.now.size)) (steps.new - steps.old) (applies.new - applies.old) }
 {
     let contents = generate_image(alloc, bench.number, bench.size)?;
@@ -155,7 +157,7 @@ fn tell_generated<L: Ledger, M: Ledger>(
 // Reads a source, and assembles it.
 #[tactic(auto, using(crate::proofs::Sources::too_long))]
 fn assemble_file<H: Shelf>(alloc: Global, name: &str, shelf: &mut H) -> Result<Vec<u8>, Refusal>
-    ensures answer { Answers (Assemble name.now) (H.holds shelf.old name.now) (H.faults shelf.old) (H.faults shelf.new) result }
+    ensures answer { Answers source_due (H.holds shelf.old name.now) (H.faults shelf.old) (H.faults shelf.new) result }
     ensures keeps { (n : List ℕ) → H.holds shelf.new n ≡ H.holds shelf.old n }
     ensures later { H.faults shelf.old ≤ H.faults shelf.new }
 {
@@ -172,7 +174,7 @@ pub fn perform<H: Shelf, L: Ledger, M: Ledger>(
     applies: &mut Steps<M>,
 ) -> Result<Vec<u8>, Refusal>
     requires { IsDoable (job_of command.now) }
-    ensures answer { Answers (job_of command.now) (told_to (job_of command.now) (H.holds shelf.old)) (H.faults shelf.old) (H.faults shelf.new) result }
+    ensures answer { Answers (answer (job_of command.now) (H.holds shelf.old)) (told_to (job_of command.now) (H.holds shelf.old)) (H.faults shelf.old) (H.faults shelf.new) result }
     ensures keeps { (n : List ℕ) → H.holds shelf.new n ≡ H.holds shelf.old n }
     ensures later { H.faults shelf.old ≤ H.faults shelf.new }
     ensures work { WorkOf (job_of command.now) (told_to (job_of command.now) (H.holds shelf.old)) (steps.new - steps.old) (applies.new - applies.old) }
@@ -180,6 +182,7 @@ pub fn perform<H: Shelf, L: Ledger, M: Ledger>(
     match command {
         Command::Image(command) => tell_image(alloc, command, shelf, steps, applies),
         Command::Generated(command) => tell_generated(alloc, command, steps, applies),
+        Command::Check(command) => check_file(alloc, command, shelf, steps, applies),
         Command::Assembly(source) => assemble_file(alloc, source, shelf),
     }
 }

@@ -111,6 +111,13 @@ pub fn dead_text(alloc: Global, counts: &DeadCounts) -> Result<String, AllocErro
     format!(in alloc; "{needed}{registers}{memory}")
 }
 
+/// The text of `check`: how many pairs of a bit and a cycle the accepted map has.
+pub fn accepted_text(alloc: Global, pairs: u64) -> Result<String, AllocError>
+    ensures { IfOk result (λ text. string_bytes text ≡ texts.accepted_text pairs) }
+{
+    format!(in alloc; "accepted {pairs}\n")
+}
+
 /// The text of `query`: the class of a bit.
 pub fn class_text(alloc: Global, class: Class) -> Result<String, AllocError>
     ensures { IfOk result (λ text. string_bytes text ≡ texts.class_text class) }

@@ -2,7 +2,7 @@
 ghost use Rattle.std.specs.Prelude.{◌≡◌, ◌⊎◌, ◌-◌, List, ℕ, IfOk, string_bytes};
 ghost use Rattle.avf_base.specs.Refusals.{line_of};
 ghost use Rattle.avf_tool.specs.Ends.{ByStatus, Ends, IsNoFault, MayTell, NeverFails, Serves, TookLine, faults_of, use_of};
-ghost use Rattle.avf_tool.specs.Law.{ProgramLaw};
+ghost use Rattle.avf_tool.specs.Law.{MapLaw, ProgramLaw};
 ghost use Rattle.avf_tool.specs.Words.{command_of, texts};
 ghost use Rattle.avf_tool.specs.Work.{Works};
 
@@ -116,7 +116,7 @@ fn end<H: Shelf, O: Sink, E: Sink, L: Ledger, M: Ledger>(
 
 /// Does all that the program does: reads the words after the program's name, works out the command's text from the shelf's
 /// files and gives it to `out`, or gives the line of a refusal to `err`. It answers the program's status: 0, or that of the
-/// refusal, 2 to 9.
+/// refusal, 2 to 10.
 ///
 /// `steps` counts the machine's cycles that were simulated, and `applies` the instructions that the instruction set ran.
 pub fn run_tool<H: Shelf, O: Sink, E: Sink, L: Ledger, M: Ledger>(
@@ -136,6 +136,7 @@ pub fn run_tool<H: Shelf, O: Sink, E: Sink, L: Ledger, M: Ledger>(
     ensures plain { NeverFails H.faults → NeverFails O.faults → IsNoFault result }
     ensures keeps { (n : List ℕ) → H.holds shelf.new n ≡ H.holds shelf.old n }
     ensures programs { ProgramLaw }
+    ensures maps { MapLaw }
     ensures work { Works (command_of (texts words.now)) (H.holds shelf.old) (steps.new - steps.old) (applies.new - applies.old) }
 {
     end(alloc, words, shelf, out, err, steps, applies)

@@ -11,7 +11,7 @@ mod FileLines
 mod Checked
 mod Rounds
 mod RoundTrips
-mod HarmlessLines
+pub mod HarmlessLines
 pub mod Outcomes
 pub mod OneMap
-mod OwnMaps
+pub mod OwnMaps
