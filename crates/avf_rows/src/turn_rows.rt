@@ -14,6 +14,9 @@ use std::sync::ledger::{Blank, Ledger};
 // A source of one instruction.
 const SOURCE: &str = "ecall\n";
 
+// A map of the run of the image.
+const MAP: &str = "avf-map 1\ncycles 6\ninstructions 3\npc 0 0 6 U1\n";
+
 // For how many bytes a sink has room.
 const ROOM: u32 = 0x10_0000;
 
@@ -35,7 +38,7 @@ struct Given {
     out: MemSink,
 }
 
-// The words over a shelf with the flat image of three words and a source.
+// The words over a shelf with the flat image of three words, a source and a map.
 fn call<L: Ledger, M: Ledger>(
     alloc: Global,
     line: &str,
@@ -49,6 +52,7 @@ fn call<L: Ledger, M: Ledger>(
     let mut shelf = MemShelf::new(alloc, faults.reads)?;
     shelf.put("a.elf", &flat(alloc, &THREE)?)?;
     shelf.put("a.s", SOURCE.as_bytes())?;
+    shelf.put("a.map", MAP.as_bytes())?;
     let mut out = MemSink::new(alloc, ROOM, faults.most, faults.writes)?;
     let mut err = MemSink::new(alloc, 64, 64, &[])?;
     let status = run_tool(
@@ -65,7 +69,7 @@ fn reads_in_turn<R: Abort + AllocGlobal, L: Ledger, M: Ledger>(
     line: &str,
     reads: u32,
 ) {
-    for k in 1..4 {
+    for k in 1..reads.saturating_add(2) {
         let faults = Faults {
             reads: &[k],
             writes: &[],
@@ -126,7 +130,7 @@ fn turns<R: Abort + AllocGlobal, L: Ledger, M: Ledger>(
     steps: &mut Steps<L>,
     applies: &mut Steps<M>,
 ) {
-    let rows: [(&str, u32, u32); 13] = [
+    let rows: [(&str, u32, u32); 14] = [
         ("run a.elf 6", 2, 4),
         ("dead a.elf 6", 2, 4),
         ("report a.elf 6", 2, 16),
@@ -135,6 +139,7 @@ fn turns<R: Abort + AllocGlobal, L: Ledger, M: Ledger>(
         ("campaign a.elf 6 1 8", 2, 4),
         ("due a.elf 6 both", 2, 4),
         ("map a.elf 6", 2, 8192),
+        ("check a.elf 6 a.map", 4, 4),
         ("query a.elf 6 ib 32 1", 2, 4),
         ("flip a.elf 100 pc 0 0", 2, 4),
         ("with 1 16 1 run a.elf 6", 2, 4),
