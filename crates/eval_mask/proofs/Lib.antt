@@ -5,6 +5,7 @@ pub mod Doings
 pub mod EffectsTold
 pub mod Fields
 pub mod MaskLoops
+pub mod LastingValues
 pub mod Masked
 pub mod Moved
 pub mod OwnChange
@@ -16,3 +17,4 @@ pub mod UnreadBits
 pub mod UnreadFields
 pub mod UnreadMasks
 pub mod WordBits
+pub mod WrittenValues

@@ -11,6 +11,7 @@ use Rattle.eval_mask.specs.Aftermaths.{aftermath_of, doing_of, is_completed, ope
 use Rattle.eval_mask.specs.Agreement.{Agree}
 use Rattle.eval_mask.specs.Compared.{IsKnown, need_at}
 use Rattle.eval_mask.specs.LatchMasks.{base_of, first_after, is_on_path, reads_clock}
+use Rattle.eval_mask.specs.Values.{IsLasting}
 use Rattle.eval_mask.specs.declared.completing.Aftermath.{Aftermath}
 use Rattle.eval_mask.specs.declared.completing.Write.{Write}
 use Rattle.eval_mask.specs.declared.cases.Case.{Case}
@@ -29,6 +30,7 @@ pub record IsCase (needs : Needs) (arch : ArchState) (w : ResultLatch) (m : Exec
   pub held : case.held ≡ operand_after case.own.below.write w d.rs2 d.b
   pub need : case.known.above.mask ≡ need_at needs case.own.above.write.rd case.first_after
   pub known : IsKnown needs case.first_after case.known
+  pub lasting : IsLasting needs case.first_after case.own case.lasting
 
 -- the same is left as of the latches of a case, where it is needed
 abbrev pub AgreesWithOwn : Needs → ArchState → Case → Aftermath → Type 0

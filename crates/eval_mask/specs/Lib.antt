@@ -6,4 +6,5 @@ pub mod Effects
 pub mod LatchMasks
 pub mod Seems
 pub mod Unread
+pub mod Values
 pub mod WordMasks

@@ -16,6 +16,7 @@ use crate::completing::{
     Aftermath, Change, Doing, Write, completed, doing_of, executed_change, is_completed, left_by,
     operand_after,
 };
+use crate::values::{Lasting, lasting_bits};
 use need_pass::NeedTable;
 use pipe_latch::{ExMem, IdEx, MemWb};
 use rv_isa::Arch;
@@ -48,6 +49,8 @@ pub struct Case {
     pub held: u32,
     /// The needs of the registers that are written.
     pub known: Known,
+    /// The bits of the written values that are needed afterwards.
+    pub lasting: Lasting,
 }
 
 fn is_on_path(d: &IdEx, npc: u32, needs: &NeedTable, issued: u32) -> bool
@@ -90,6 +93,7 @@ pub fn case_of(
     let first_after = first_after(on_path, issued, count);
     let below = executed_change(arch, m);
     let own = completed(&below, w, m, d, arch, npc, issued);
+    let known = known_needs(needs, first_after, &own);
     Case {
         oldest: Write {
             rd: w.rd,
@@ -106,7 +110,8 @@ pub fn case_of(
         own,
         a: operand_after(&own.below.write, w, d.rs1, d.a),
         held: operand_after(&own.below.write, w, d.rs2, d.b),
-        known: known_needs(needs, first_after, &own),
+        known,
+        lasting: lasting_bits(&known, &own),
     }
 }
 

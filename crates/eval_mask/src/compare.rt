@@ -68,6 +68,8 @@ fn look_up(needs: &NeedTable, r: u8, at: u32) -> RegisterNeed
 pub fn known_needs(needs: &NeedTable, at: u32, left: &Aftermath) -> Known
     requires { at ≤ needs.now.count }
     ensures known { IsKnown needs.now at result }
+    ensures first { result.first.mask ≡ spec.need_at needs.now left.now.first.rd at }
+    ensures below { result.below.mask ≡ spec.need_at needs.now left.now.below.write.rd at }
     ensures above { result.above.mask ≡ spec.need_at needs.now left.now.above.write.rd at }
 {
     Known {

@@ -9,6 +9,7 @@ use crate::cases::{
 };
 use crate::completing::{Aftermath, action_change, write_held};
 use crate::decoded::{decoded_bits, whole_field, with_field};
+use crate::values::{known_below, known_first};
 use bit_field::Struck;
 use need_pass::NeedTable;
 use pipe_latch::{ExMem, IdEx, MemWb};
@@ -51,6 +52,9 @@ fn executed_bit(
         return !case.reads_clock;
     }
     let below = action_change(arch, &action);
+    if let Some(alike) = known_below(w, m, d, arch, needs, case, &below) {
+        return alike;
+    }
     if !is_kept(case, w, d, &below) {
         return is_masked(&below, w, &flipped, d, arch, needs, case);
     }
@@ -78,6 +82,9 @@ fn written_bit(
 {
     let mut flipped = *w;
     flipped.flip(k);
+    if let Some(alike) = known_first(w, &flipped, m, d, arch, needs, case) {
+        return alike;
+    }
     if !is_unmoved(case, &flipped, d) {
         return is_masked(&case.own.below, &flipped, m, d, arch, needs, case);
     }

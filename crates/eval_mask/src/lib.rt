@@ -4,6 +4,7 @@
 // - compare: whether two such aftermaths agree where it is needed;
 // - cases: what the latches leave as they are, worked out once, and whether flipped ones leave the same;
 // - unread: which fields of ID/EX the instruction doesn't read;
+// - values: other values in place of those that the latches write;
 // - decoded: the masks of ID/EX;
 // - latches: the masks of the latches;
 // - words: the mask of an instruction word.
@@ -15,6 +16,7 @@ mod completing;
 mod decoded;
 mod latches;
 mod unread;
+mod values;
 mod words;
 
 pub use latches::{LatchMask, latch_bits};

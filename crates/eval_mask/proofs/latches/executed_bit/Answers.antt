@@ -4,6 +4,7 @@ use Rattle.eval_mask.proofs.Fields.{executed_inside}
 use Rattle.eval_mask.proofs.Masked.{executed_exactly}
 use Rattle.eval_mask.proofs.Moved.{kept_exactly, kept_never}
 use Rattle.eval_mask.proofs.UnreadBits.{unread_exactly}
+use Rattle.eval_mask.proofs.WrittenValues.{below_asked}
 use Rattle.eval_mask.proofs.latches.executed_bit.Goals as goal
 
 pub returns-then-same_action : goal.returns-then-same_action
@@ -46,3 +47,12 @@ left_with-requires c =
           own_left c.args.needs.now c.args.arch.now c.args.w.now c.args.m.now c.args.d.now c.args.case.now c.requires.case
           (c.is_kept.ensures.reached c.if-not-is_kept.false);
     }
+
+pub returns-in-Some : goal.returns-in-Some
+returns-in-Some c =
+    executed_exactly c.args.needs.now c.args.arch.now c.args.w.now c.args.m.now c.args.d.now c.args.case.now c.args.k
+    c.in-Some.alike c.requires.case (executed_inside c.args.k c.requires.place)
+    (rw c.flip.ensures at
+    (below_asked c.args.needs.now c.args.arch.now c.args.w.now c.args.m.now c.flip.new.self c.args.d.now c.args.case.now c.action_change-below.result
+    c.action_change-below.result.write.value c.in-Some.alike c.requires.case (rw c.action-action.ensures.action at c.action_change-below.ensures)
+    c.in-Some.ensures.value c.in-Some.ensures.unread c.in-Some.ensures.alike))
