@@ -6,9 +6,10 @@ use Rattle.bit_field.specs.Layouts.{bits_of, flip, flip_by, located}
 use Rattle.bit_field.proofs.Located.{located-here, located-none, located-on}
 use Rattle.pipe_latch.specs.DecodedBits as decoded
 use Rattle.pipe_latch.specs.ExecutedBits as executed
-use Rattle.pipe_latch.specs.Latches.{DecodedLatch, ExecutedLatch}
+use Rattle.pipe_latch.specs.Latches.{DecodedLatch, ExecutedLatch, ResultLatch}
 use Rattle.pipe_latch.specs.ResultBits as result
 use Rattle.pipe_latch.specs.declared.ex_mem.ExMemField.TheVariants.{Valid as Occupied, Kind, Rd as Result, X, Y, Cause}
+use Rattle.pipe_latch.specs.declared.mem_wb.MemWbField.TheVariants.{Rd as Target, Value}
 use Rattle.pipe_latch.specs.declared.id_ex.IdExField.{IdExField}
 use Rattle.pipe_latch.specs.declared.id_ex.IdExField.TheVariants.{Valid, Pc, Op, Rd, Rs1, Rs2, A, B, Imm, Count}
 use Rattle.eval_mask.specs.LatchMasks.{decoded_field, executed_field, is_in, result_field}
@@ -161,3 +162,9 @@ immediate_flipped d i l =
 
 pub y_flipped : (m : ExecutedLatch) (i : ℕ) → i < 32 → (record m { y = flip m.y i }) ≡ executed.flipped m (43 + i)
 y_flipped m i l = sym (ap (flip_by (executed.flip_in m) m) (place_of executed.width (Occupied ∷ Kind ∷ Result ∷ X ∷ []) Y (Cause ∷ []) i l))
+
+pub x_flipped : (m : ExecutedLatch) (i : ℕ) → i < 32 → (record m { x = flip m.x i }) ≡ executed.flipped m (11 + i)
+x_flipped m i l = sym (ap (flip_by (executed.flip_in m) m) (place_of executed.width (Occupied ∷ Kind ∷ Result ∷ []) X (Y ∷ Cause ∷ []) i l))
+
+pub value_flipped : (w : ResultLatch) (i : ℕ) → i < 32 → (record w { value = flip w.value i }) ≡ result.flipped w (5 + i)
+value_flipped w i l = sym (ap (flip_by (result.flip_in w) w) (place_of result.width (Target ∷ []) Value [] i l))

@@ -5,6 +5,7 @@ pub mod Doings
 pub mod EffectsTold
 pub mod Fields
 pub mod MaskLoops
+pub mod FreeValues
 pub mod LastingValues
 pub mod Masked
 pub mod Moved

@@ -107,12 +107,12 @@ all_masked P all = record {
       );
 }
 
-none_masked : (P : ℕ → Type 0) → ((i : ℕ) → i < 32 → P i → ⊥) → IsMaskBelow 32 P 0
+pub none_masked : (P : ℕ → Type 0) → ((i : ℕ) → i < 32 → P i → ⊥) → IsMaskBelow 32 P 0
 none_masked P never = record {
   bits = λ k. (λ one. absurd (omega (arith, one, bit_at-zero k)), λ h. absurd (never k (h.0) (h.1)));
 }
 
-whole_by : (clock : Bool) (P : ℕ → Type 0) → (clock ≡ false → (i : ℕ) → i < 32 → P i) → (clock ≡ true → (i : ℕ) → i < 32 → P i → ⊥)
+pub whole_by : (clock : Bool) (P : ℕ → Type 0) → (clock ≡ false → (i : ℕ) → i < 32 → P i) → (clock ≡ true → (i : ℕ) → i < 32 → P i → ⊥)
     → IsMaskBelow 32 P (if clock then 0 else 2 ^ 32 - 1)
 whole_by true P all never = none_masked P (never refl)
 whole_by false P all never = all_masked P (all refl)

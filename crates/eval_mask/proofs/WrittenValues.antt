@@ -26,7 +26,7 @@ use Rattle.eval_mask.specs.declared.completing.Write.{Write}
 use Rattle.eval_mask.proofs.Completed.{alu_doing, doing_told, immediate_doing}
 use Rattle.eval_mask.proofs.Doings.{own_is, own_left}
 use Rattle.eval_mask.proofs.LastingValues.{above_needed, below_needed, first_needed, values_agree}
-use Rattle.eval_mask.proofs.Masked.{IsAskedOf, masked_exactly}
+use Rattle.eval_mask.proofs.Masked.{IsAskedOf, masked_exactly, masked_never}
 use Rattle.eval_mask.proofs.Moved.{same_store_left}
 use Rattle.eval_mask.proofs.OwnChange.{own_below, own_write, write_of_change}
 
@@ -86,7 +86,7 @@ pub not_both : (t : Bool) → t ≡ true → t ≡ false → ⊥
 not_both t e f = grind arith
 
 -- where ID/EX is completed and where it isn't
-by_reached : (t : Bool) (P : Type 0) → (t ≡ true → P) → (t ≡ false → P) → P
+pub by_reached : (t : Bool) (P : Type 0) → (t ≡ true → P) → (t ≡ false → P) → P
 by_reached true P here there = here refl
 by_reached false P here there = there refl
 
@@ -192,7 +192,7 @@ first_if : (t : Bool) (x y : Aftermath) (first : Write) → x.first ≡ first �
 first_if true x y first e f = e
 first_if false x y first e f = f
 
-own_first : (needs : Needs) (arch : ArchState) (w : ResultLatch) (m : ExecutedLatch) (d : DecodedLatch) (case : Case) → IsCase needs arch w m d case
+pub own_first : (needs : Needs) (arch : ArchState) (w : ResultLatch) (m : ExecutedLatch) (d : DecodedLatch) (case : Case) → IsCase needs arch w m d case
     → case.own.first ≡ record { rd = w.rd; value = w.value }
 unfolding aftermath_of left_by
 own_first needs arch w m d case is =
@@ -441,3 +441,14 @@ first_asked needs arch w other m d case r is unread h =
     (record { w = other; m = m; d = d }) case.own r is.outcome
     (clock_with arch w other m d case.oldest.rd case.oldest.value case.npc case.issued ∙ sym is.clock ∙ unread)
     (subst (λ (x : Aftermath). IsTrue r ↔ AgreesWithOwn needs arch case x) (first_is needs arch w other m d case is) h)
+
+pub below_never : (needs : Needs) (arch : ArchState) (w : ResultLatch) (m n : ExecutedLatch) (d : DecodedLatch) (case : Case) (below : Change) (value : ℕ)
+    → IsCase needs arch w m d case → below ≡ change_of arch.image (action_of n) (state_of arch).memory → below ≡ with_value case.own.below value
+    → case.reads_clock ≡ true → IsTrue false ↔ IsAskedOf needs arch case (record { w = w; m = m; d = d }) (record { w = w; m = n; d = d })
+below_never needs arch w m n d case below value is change other reads =
+    let o : IsOther arch.image (state_of arch).memory case n below value = record { change = change; other = other } in
+    masked_never needs case.first_after arch case.oldest.rd case.oldest.value case.npc case.issued (record { w = w; m = m; d = d })
+    (record { w = w; m = n; d = d })
+    (clock_by arch w m n d case.oldest.rd case.oldest.value case.npc case.issued (same_completed needs arch w m n d case below value is o ∙ is.reached)
+    ∙ sym is.clock
+    ∙ reads)

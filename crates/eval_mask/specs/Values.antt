@@ -1,8 +1,10 @@
 -- Other values in place of those that the latches write.
-use Rattle.std.specs.Prelude.{◌≡◌, ℕ, ◌==◌, ◌&&◌, ◌||◌, Bool, false, not, is_none, Option, Some, None, if◌then◌else◌}
+use Rattle.std.specs.Prelude.{◌≡◌, ℕ, ◌==◌, ◌&&◌, ◌||◌, Bool, false, true, not, is_none, Option, Some, None, if◌then◌else◌}
 use Rattle.elf_load.specs.Image.{LoadedImage}
 use Rattle.rv_table.specs.Arithmetic.{alu}
 use Rattle.rv_table.specs.Operations.{operation_of}
+use Rattle.rv_table.specs.declared.action.Action.{Action}
+use Rattle.rv_table.specs.declared.action.Action.TheVariants.{Writes}
 use Rattle.rv_table.specs.declared.operation.Operation.{Operation}
 use Rattle.rv_table.specs.declared.operation.Operation.TheVariants.{Alu, AluImmediate}
 use Rattle.pipe_latch.specs.Latches.{DecodedLatch, ResultLatch}
@@ -41,6 +43,11 @@ pub record SameValues (case : Case) (x y z : ℕ) : Type 0 where
   pub first : SameWhere 32 case.lasting.first x case.own.first.value
   pub below : SameWhere 32 case.lasting.below y case.own.below.write.value
   pub above : SameWhere 32 case.lasting.above z case.own.above.write.value
+
+-- an action that writes a value into a register, and does nothing else
+abbrev pub is_write : Action → Bool
+is_write (Writes rd value) = true
+is_write _ = false
 
 -- what ID/EX writes with these operands, where it does nothing else
 abbrev pub plain_by : Operation → ℕ → ℕ → ℕ → Option ℕ

@@ -1,5 +1,6 @@
 // The masks of the latches.
 ghost use Rattle.std.specs.Prelude.{◌≡◌, ◌↔◌, ◌+◌, ◌<◌, ◌≤◌, IsTrue};
+ghost use Rattle.rv_table.specs.declared.action.Action.TheVariants.{Nothing};
 ghost use Rattle.eval_mask.specs.Cases.{IsCase, IsMaskBelow};
 ghost use Rattle.eval_mask.specs.LatchMasks.{HasBits, IsExecutedMasked, IsLatchMask, IsResultMasked};
 ghost use Rattle.eval_mask.specs.Unread.{is_store};
@@ -9,7 +10,7 @@ use crate::cases::{
 };
 use crate::completing::{Aftermath, action_change, write_held};
 use crate::decoded::{decoded_bits, whole_field, with_field};
-use crate::values::{known_below, known_first};
+use crate::values::{is_first_free, is_result_free, known_below, known_first, unneeded};
 use bit_field::Struck;
 use need_pass::NeedTable;
 use pipe_latch::{ExMem, IdEx, MemWb};
@@ -95,8 +96,8 @@ fn written_bit(
     same_left(arch, needs, case, &Aftermath { first, ..case.own })
 }
 
-/// The masked bits of EX/MEM below 43, those of all its fields before the value to store.
-fn result_bits(
+/// The masked bits of EX/MEM below 11, those that say what it does.
+fn asked_bits(
     w: &MemWb,
     m: &ExMem,
     d: &IdEx,
@@ -106,15 +107,50 @@ fn result_bits(
 ) -> u128
     requires within { case.now.first_after ≤ needs.now.count }
     requires case { IsCase needs.now arch.now w.now m.now d.now case.now }
-    ensures { IsMaskBelow 43 (IsExecutedMasked needs.now arch.now (record { w = w.now; m = m.now; d = d.now }) case.now.oldest.value case.now.npc case.now.issued) result }
+    ensures { IsMaskBelow 11 (IsExecutedMasked needs.now arch.now (record { w = w.now; m = m.now; d = d.now }) case.now.oldest.value case.now.npc case.now.issued) result }
 {
     let mut mask: u128 = 0;
-    for k in 0..43u32 {
+    for k in 0..11u32 {
         if executed_bit(w, m, d, arch, needs, case, k) {
             mask |= 1 << k;
         }
     }
     mask
+}
+
+/// The masked bits of EX/MEM's result or address: of a result that ID/EX doesn't take, those that aren't needed afterwards.
+fn result_bits(
+    w: &MemWb,
+    m: &ExMem,
+    d: &IdEx,
+    arch: &Arch<'_>,
+    needs: &NeedTable,
+    case: &Case,
+) -> u32
+    requires within { case.now.first_after ≤ needs.now.count }
+    requires case { IsCase needs.now arch.now w.now m.now d.now case.now }
+    ensures { IsMaskBelow 32 (λ i. IsExecutedMasked needs.now arch.now (record { w = w.now; m = m.now; d = d.now }) case.now.oldest.value case.now.npc case.now.issued (11 + i)) result }
+{
+    if is_nothing(&case.executed) {
+        return whole_field(case.reads_clock);
+    }
+    if is_result_free(case, d) {
+        return unneeded(case.reads_clock, case.lasting.below);
+    }
+    let mut mask: u32 = 0;
+    for k in 0..32u32 {
+        if executed_bit(w, m, d, arch, needs, case, 11 + k) {
+            mask |= 1 << k;
+        }
+    }
+    mask
+}
+
+/// Whether an action is none.
+fn is_nothing(action: &Action) -> bool
+    ensures { IsTrue result → action.now ≡ Nothing }
+{
+    matches!(*action, Action::Nothing)
 }
 
 /// Whether an action is a store.
@@ -162,13 +198,60 @@ fn executed_bits(
     requires case { IsCase needs.now arch.now w.now m.now d.now case.now }
     ensures { HasBits 128 (IsExecutedMasked needs.now arch.now (record { w = w.now; m = m.now; d = d.now }) case.now.oldest.value case.now.npc case.now.issued) result }
 {
+    let asked = asked_bits(w, m, d, arch, needs, case);
     let result = result_bits(w, m, d, arch, needs, case);
     let stored = stored_bits(w, m, d, arch, needs, case);
-    with_field(result, stored, 43)
+    with_field(with_field(asked, result, 11), stored, 43)
+}
+
+/// The masked bits of MEM/WB's register.
+fn register_bits(
+    w: &MemWb,
+    m: &ExMem,
+    d: &IdEx,
+    arch: &Arch<'_>,
+    needs: &NeedTable,
+    case: &Case,
+) -> u64
+    requires within { case.now.first_after ≤ needs.now.count }
+    requires case { IsCase needs.now arch.now w.now m.now d.now case.now }
+    ensures { IsMaskBelow 5 (IsResultMasked needs.now arch.now (record { w = w.now; m = m.now; d = d.now }) case.now.oldest.value case.now.npc case.now.issued) result }
+{
+    let mut mask: u64 = 0;
+    for k in 0..5u32 {
+        if written_bit(w, m, d, arch, needs, case, k) {
+            mask |= 1 << k;
+        }
+    }
+    mask
+}
+
+/// The masked bits of MEM/WB's value: where ID/EX doesn't take it, those that aren't needed afterwards.
+fn value_bits(
+    w: &MemWb,
+    m: &ExMem,
+    d: &IdEx,
+    arch: &Arch<'_>,
+    needs: &NeedTable,
+    case: &Case,
+) -> u32
+    requires within { case.now.first_after ≤ needs.now.count }
+    requires case { IsCase needs.now arch.now w.now m.now d.now case.now }
+    ensures { IsMaskBelow 32 (λ i. IsResultMasked needs.now arch.now (record { w = w.now; m = m.now; d = d.now }) case.now.oldest.value case.now.npc case.now.issued (5 + i)) result }
+{
+    if is_first_free(case, w, d) {
+        return unneeded(case.reads_clock, case.lasting.first);
+    }
+    let mut mask: u32 = 0;
+    for k in 0..32u32 {
+        if written_bit(w, m, d, arch, needs, case, 5 + k) {
+            mask |= 1 << k;
+        }
+    }
+    mask
 }
 
 /// The masked bits of MEM/WB.
-#[tactic(auto, using(crate::proofs::MaskLoops::mask_steps))]
 fn written_bits(
     w: &MemWb,
     m: &ExMem,
@@ -181,13 +264,9 @@ fn written_bits(
     requires case { IsCase needs.now arch.now w.now m.now d.now case.now }
     ensures { HasBits 64 (IsResultMasked needs.now arch.now (record { w = w.now; m = m.now; d = d.now }) case.now.oldest.value case.now.npc case.now.issued) result }
 {
-    let mut mask: u64 = 0;
-    for k in 0..37u32 {
-        if written_bit(w, m, d, arch, needs, case, k) {
-            mask |= 1 << k;
-        }
-    }
-    mask
+    let register = register_bits(w, m, d, arch, needs, case);
+    let value = value_bits(w, m, d, arch, needs, case);
+    register | (u64::from(value) << 5)
 }
 
 /// The logically masked bits of the latches. `w`, `m`, `d` and `npc` are those of a state of the machine, `old` is what its register

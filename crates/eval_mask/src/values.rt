@@ -1,8 +1,9 @@
 // Other values in place of those that the latches write.
-ghost use Rattle.std.specs.Prelude.{◌≡◌, ◌↔◌, ℕ, IfSome, IsTrue, false};
+ghost use Rattle.std.specs.Prelude.{◌≡◌, ◌↔◌, ◌⊎◌, ℕ, IfSome, IsTrue, false, true};
+ghost use Rattle.std.specs.Int.{bit_at};
 ghost use Rattle.rv_isa.specs.Architecture.{state_of};
 ghost use Rattle.need_pass.specs.Tables.{Needs};
-ghost use Rattle.eval_mask.specs.Cases.{AgreesWithOwn, IsCase};
+ghost use Rattle.eval_mask.specs.Cases.{AgreesWithOwn, IsCase, IsMaskBelow};
 ghost use Rattle.eval_mask.specs.Compared.{need_at};
 ghost use Rattle.eval_mask.specs.Values as spec;
 ghost use Rattle.eval_mask.specs.Values.{IsLasting, SameValues};
@@ -13,7 +14,7 @@ use crate::completing::{Aftermath, Change, Write, write_held};
 use need_pass::NeedTable;
 use pipe_latch::{ExMem, IdEx, MemWb};
 use rv_isa::Arch;
-use rv_table::{Operation, alu, operation_of};
+use rv_table::{Action, Operation, alu, operation_of};
 
 /// The bits of the values that MEM/WB, EX/MEM and ID/EX write which are needed afterwards: none of a value that a later one replaces,
 /// and none where the run has ended.
@@ -203,4 +204,35 @@ pub fn known_first(
         return None;
     }
     is_first_alike(w, other, m, d, arch, needs, case)
+}
+
+/// Whether ID/EX doesn't take MEM/WB's value: EX/MEM writes its register too, or it is no operand's.
+pub fn is_first_free(case: &Case, w: &MemWb, d: &IdEx) -> bool
+    ensures { IsTrue result → (w.now.rd ≡ case.now.own.below.write.rd) ⊎ (spec.is_taken case.now d.now w.now.rd ≡ false) }
+{
+    let rd = write_held(w).rd;
+    is_same_register(rd, case.own.below.write.rd) || !is_taken(case, d, rd)
+}
+
+/// Whether EX/MEM writes a result, and ID/EX doesn't take it.
+pub fn is_result_free(case: &Case, d: &IdEx) -> bool
+    ensures writes { IsTrue result → spec.is_write case.now.executed ≡ true }
+    ensures free { IsTrue result → spec.is_taken case.now d.now case.now.own.below.write.rd ≡ false }
+{
+    is_write(&case.executed) && !is_taken(case, d, case.own.below.write.rd)
+}
+
+/// Whether an action writes a value into a register, and does nothing else.
+fn is_write(action: &Action) -> bool
+    ensures { result ≡ spec.is_write action.now }
+{
+    matches!(*action, Action::Writes { .. })
+}
+
+/// The bits that aren't needed, and none where a read of the cycle counter is completed.
+pub fn unneeded(reads_clock: bool, needed: u32) -> u32
+    ensures clock { reads_clock ≡ true → result ≡ 0 }
+    ensures bits { reads_clock ≡ false → IsMaskBelow 32 (λ i. bit_at needed i ≡ 0) result }
+{
+    if reads_clock { 0 } else { needed ^ u32::MAX }
 }

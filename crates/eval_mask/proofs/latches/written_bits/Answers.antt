@@ -1,24 +1,14 @@
 use Rattle.std.proofs.Common.{arith}
 use Rattle.eval_mask.specs.LatchMasks.{IsResultMasked, Latches}
-use Rattle.eval_mask.proofs.Masked.{no_both, written_after}
-use Rattle.eval_mask.proofs.MaskLoops.{mask_kept, mask_set}
-use Rattle.eval_mask.proofs.Rows.{row_done}
+use Rattle.eval_mask.proofs.Masked.{written_after}
+use Rattle.eval_mask.proofs.Rows.{row_done, row_next}
 use Rattle.eval_mask.proofs.latches.written_bits.Goals as goal
-use Rattle.eval_mask.proofs.latches.written_bits.Goals.{then-written_bit, else-written_bit}
-
-pub loop-k-preserved : goal.loop-k-preserved
-loop-k-preserved c =
-    let case = c.args.case.now in
-    let l : Latches = record { w = c.args.w.now; m = c.args.m.now; d = c.args.d.now } in
-    let P = IsResultMasked c.args.needs.now c.args.arch.now l case.oldest.value case.npc case.issued in
-    elim c.if-written_bit.branch [
-      | then-written_bit w ↦
-          rw w.mask-is
-          (mask_set 64 c.loop-k.k c.loop-k.mask P (omega (arith, c.loop-k-test.true)) c.loop-k.invariant (c.written_bit.ensures.0 w.if-written_bit.true))
-      | else-written_bit w ↦
-          rw w.mask-is (mask_kept c.loop-k.k c.loop-k.mask P c.loop-k.invariant (λ p. no_both _ (c.written_bit.ensures.1 p) w.if-written_bit.false))
-    ]
 
 pub returns : goal.returns
 returns c =
-    row_done 64 c.loop-k.k c.loop-k.mask _ (λ k h. written_after _ _ _ _ _ _ k (omega (arith, h, c.loop-k-test.false))) c.loop-k.invariant
+    let case = c.args.case.now in
+    let l : Latches = record { w = c.args.w.now; m = c.args.m.now; d = c.args.d.now } in
+    let P = IsResultMasked c.args.needs.now c.args.arch.now l case.oldest.value case.npc case.issued in
+    rw c.from.ensures
+    (row_done 64 37 _ P (λ k h. written_after c.args.needs.now c.args.arch.now l case.oldest.value case.npc case.issued k h)
+    (row_next 64 5 32 c.register_bits-register.result c.value_bits-value.result P (omega arith) c.register_bits-register.ensures c.value_bits-value.ensures))

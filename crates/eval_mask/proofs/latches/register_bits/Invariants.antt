@@ -1,0 +1,8 @@
+use Rattle.eval_mask.specs.Cases.{IsMaskBelow}
+use Rattle.eval_mask.specs.LatchMasks.{IsResultMasked}
+use Rattle.eval_mask.proofs.latches.register_bits.Given as goal
+
+abbrev pub invariant-loop-k : goal.invariant-loop-k
+invariant-loop-k l = IsMaskBelow l.k (IsResultMasked l.needs l.arch
+    (record { w = l.w; m = l.m; d = l.d })
+    l.case.oldest.value l.case.npc l.case.issued) l.mask
