@@ -14,7 +14,7 @@ use Rattle.eval_mask.specs.Values.{IsLasting, unless_replaced, with_values}
 use Rattle.eval_mask.specs.declared.completing.Aftermath.{Aftermath}
 use Rattle.eval_mask.specs.declared.completing.Write.{Write}
 use Rattle.eval_mask.specs.declared.values.Lasting.{Lasting}
-use Rattle.eval_mask.proofs.Agreeing.{agree_by, agree_next}
+use Rattle.eval_mask.proofs.Agreeing.{agree_by, agree_end, agree_next}
 use Rattle.eval_mask.proofs.Differences.{need_inside, same_all}
 
 -- register r after writes of one register: what holds of the values, if it is that, or of the registers under them
@@ -75,7 +75,7 @@ values_agree needs j f memory own lasting x y z is first below above =
 
 -- ---- and only where they are
 
-nothing : (mask x y : ℕ) → mask ≡ 0 → SameWhere 32 mask x y
+pub nothing : (mask x y : ℕ) → mask ≡ 0 → SameWhere 32 mask x y
 nothing mask x y e = record {
   same = λ k l one. let z : bit_at mask k ≡ 0 = ap (λ (v : ℕ). bit_at v k) e ∙ bit_at-zero k in absurd (omega (arith, z, one));
 }
@@ -112,7 +112,7 @@ unless_or needs j rd x y by mask same =
     ]
 
 -- two ended aftermaths: nothing lasts
-ended_or : (end : Option End) (P : Type 0) → (end ≡ None → P) → (is_none end ≡ false → P) → P
+pub ended_or : (end : Option End) (P : Type 0) → (end ≡ None → P) → (is_none end ≡ false → P) → P
 ended_or None P here there = here refl
 ended_or (Some e) P here there = there refl
 
@@ -166,3 +166,22 @@ first_needed needs j f memory own lasting x y z is a =
     (unwritten own.above.write.rd own.above.write.value _ rd ne ∙ unwritten own.below.write.rd own.below.write.value _ rd nm ∙ written_here rd own.first.value f over)
     ((n.written.same rd).same over under))))))
     (λ some. nothing lasting.first x own.first.value ((is.ended some).0))
+
+-- whatever else an aftermath leaves, if it writes the same register above
+pub below_seen : (needs : Needs) (j : ℕ) (f memory : ℕ → ℕ) (own : Aftermath) (lasting : Lasting) (left : Aftermath) (value : ℕ) → IsLasting needs j own lasting → own.end ≡ None
+    → left.below.write ≡ (record own.below.write { value = value }) → left.above.write.rd ≡ own.above.write.rd
+    → Agree needs j (state_after left f memory) (state_after own f memory) → SameWhere 32 lasting.below value own.below.write.value
+below_seen needs j f memory own lasting left value is none e above a =
+    let rd = own.below.write.rd in
+    let n = agree_next needs j f memory left own a (agree_end needs j f memory left own a ∙ none) in
+    of_mask _ lasting.below value own.below.write.value (sym (is.below none))
+    (unless_or needs j rd value own.below.write.value own.above.write (need_at needs rd j)
+    (λ ne.
+    by_register needs j rd value own.below.write.value
+    (λ over under.
+    of_values _ _ _ value own.below.write.value
+    (unwritten left.above.write.rd left.above.write.value _ rd (λ q. ne (q ∙ above))
+    ∙ ap (λ (x : Write). written x (written left.first f) rd) e
+    ∙ written_here rd value _ over)
+    (unwritten own.above.write.rd own.above.write.value _ rd ne ∙ written_here rd own.below.write.value _ over)
+    ((n.written.same rd).same over under))))

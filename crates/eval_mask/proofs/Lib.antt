@@ -12,6 +12,7 @@ pub mod Moved
 pub mod OwnChange
 pub mod Puts
 pub mod Rows
+pub mod SameRegister
 pub mod Seeming
 pub mod UnderLog
 pub mod UnreadBits

@@ -52,7 +52,7 @@ values_exactly needs arch w m d case x y z r left is same e =
 
 -- ---- what ID/EX does
 
-doing_is : (needs : Needs) (arch : ArchState) (w : ResultLatch) (m : ExecutedLatch) (d : DecodedLatch) (case : Case) → IsCase needs arch w m d case
+pub doing_is : (needs : Needs) (arch : ArchState) (w : ResultLatch) (m : ExecutedLatch) (d : DecodedLatch) (case : Case) → IsCase needs arch w m d case
     → case.doing ≡ doing_with arch.image d case.issued case.a case.held
 doing_is needs arch w m d case is =
     is.doing
