@@ -30,6 +30,7 @@ use Rattle.eval_mask.proofs.Fields.{executed_inside, value_flipped, written_insi
 use Rattle.eval_mask.proofs.Masked.{IsAskedOf, executed_exactly, not_true, written_exactly}
 use Rattle.eval_mask.proofs.Moved.{first_never}
 use Rattle.eval_mask.proofs.OwnChange.{own_below}
+use Rattle.eval_mask.proofs.SameRegister.{below_lasts}
 use Rattle.eval_mask.proofs.UnreadMasks.{none_masked, whole_by}
 use Rattle.eval_mask.proofs.UnreadBits.{unread_exactly}
 use Rattle.eval_mask.proofs.WrittenValues.{below_asked, below_free, below_never, by_reached, first_asked, first_free, own_first}
@@ -171,6 +172,21 @@ same_below case x i held l =
       },
       λ s. same.1 (subst (λ (v : ℕ). SameWhere 32 case.lasting.below (flip x i) v) held s.below),
     )
+
+-- a bit that is needed afterwards isn't masked
+pub needed_bit : (needs : Needs) (arch : ArchState) (w : ResultLatch) (m : ExecutedLatch) (d : DecodedLatch) (case : Case) (i : ℕ) → IsCase needs arch w m d case → i < 32
+    → is_write case.executed ≡ true → case.reads_clock ≡ false → bit_at case.lasting.below i ≡ 1
+    → IsTrue false ↔ IsExecutedMasked needs arch (record { w = w; m = m; d = d }) case.oldest.value case.npc case.issued (11 + i)
+needed_bit needs arch w m d case i is l writes unread one =
+    let other = other_written needs arch w m d case (flip m.x i) is writes in
+    result_bit needs arch w m d case i false is l
+    (below_asked needs arch w m (record m { x = flip m.x i }) d case _ (flip m.x i) false is refl (other.0) unread (
+      λ t. absurd (not_true t),
+      λ a.
+          let s = below_lasts needs arch w m d case (flip m.x i) is a in
+          let t = (flip_same case.lasting.below m.x i l).1 (subst (λ (v : ℕ). SameWhere 32 case.lasting.below (flip m.x i) v) (other.1) s) in
+          absurd (grind (arith, nat_tests)),
+    ))
 
 pub below_field : (needs : Needs) (arch : ArchState) (w : ResultLatch) (m : ExecutedLatch) (d : DecodedLatch) (case : Case) (mask : ℕ) → IsCase needs arch w m d case
     → is_write case.executed ≡ true → is_taken case d case.own.below.write.rd ≡ false → (case.reads_clock ≡ true → mask ≡ 0)

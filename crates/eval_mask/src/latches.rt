@@ -10,7 +10,9 @@ use crate::cases::{
 };
 use crate::completing::{Aftermath, action_change, write_held};
 use crate::decoded::{decoded_bits, whole_field, with_field};
-use crate::values::{is_first_free, is_result_free, known_below, known_first, unneeded};
+use crate::values::{
+    is_first_free, is_needed_result, is_result_free, known_below, known_first, unneeded,
+};
 use bit_field::Struck;
 use need_pass::NeedTable;
 use pipe_latch::{ExMem, IdEx, MemWb};
@@ -118,6 +120,27 @@ fn asked_bits(
     mask
 }
 
+/// Whether bit `k` of EX/MEM's result or address is masked: that of a result isn't where it is needed afterwards.
+fn result_bit(
+    w: &MemWb,
+    m: &ExMem,
+    d: &IdEx,
+    arch: &Arch<'_>,
+    needs: &NeedTable,
+    case: &Case,
+    k: u32,
+) -> bool
+    requires within { case.now.first_after ≤ needs.now.count }
+    requires case { IsCase needs.now arch.now w.now m.now d.now case.now }
+    requires place { k < 32 }
+    ensures { IsTrue result ↔ IsExecutedMasked needs.now arch.now (record { w = w.now; m = m.now; d = d.now }) case.now.oldest.value case.now.npc case.now.issued (11 + k) }
+{
+    if is_needed_result(case, k) {
+        return false;
+    }
+    executed_bit(w, m, d, arch, needs, case, 11 + k)
+}
+
 /// The masked bits of EX/MEM's result or address: of a result that ID/EX doesn't take, those that aren't needed afterwards.
 fn result_bits(
     w: &MemWb,
@@ -139,7 +162,7 @@ fn result_bits(
     }
     let mut mask: u32 = 0;
     for k in 0..32u32 {
-        if executed_bit(w, m, d, arch, needs, case, 11 + k) {
+        if result_bit(w, m, d, arch, needs, case, k) {
             mask |= 1 << k;
         }
     }

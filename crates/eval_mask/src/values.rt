@@ -1,6 +1,6 @@
 // Other values in place of those that the latches write.
-ghost use Rattle.std.specs.Prelude.{◌≡◌, ◌↔◌, ◌⊎◌, ℕ, IfSome, IsTrue, false, true};
-ghost use Rattle.std.specs.Int.{bit_at};
+ghost use Rattle.std.specs.Prelude.{◌≡◌, ◌↔◌, ◌⊎◌, ◌<◌, ℕ, IfSome, IsTrue, false, true};
+ghost use Rattle.std.specs.Int.{bit_at as bit_of_number};
 ghost use Rattle.rv_isa.specs.Architecture.{state_of};
 ghost use Rattle.need_pass.specs.Tables.{Needs};
 ghost use Rattle.eval_mask.specs.Cases.{AgreesWithOwn, IsCase, IsMaskBelow};
@@ -11,6 +11,7 @@ ghost use Rattle.eval_mask.specs.Values.{IsLasting, SameValues};
 use crate::cases::Case;
 use crate::compare::{Known, same_word};
 use crate::completing::{Aftermath, Change, Write, write_held};
+use bit_field::bit_at;
 use need_pass::NeedTable;
 use pipe_latch::{ExMem, IdEx, MemWb};
 use rv_isa::Arch;
@@ -222,6 +223,16 @@ pub fn is_result_free(case: &Case, d: &IdEx) -> bool
     is_write(&case.executed) && !is_taken(case, d, case.own.below.write.rd)
 }
 
+/// Whether EX/MEM writes a result whose bit `k` is needed afterwards, and no read of the cycle counter is completed.
+pub fn is_needed_result(case: &Case, k: u32) -> bool
+    requires { k < 32 }
+    ensures writes { IsTrue result → spec.is_write case.now.executed ≡ true }
+    ensures unread { IsTrue result → case.now.reads_clock ≡ false }
+    ensures needed { IsTrue result → bit_of_number case.now.lasting.below k ≡ 1 }
+{
+    is_write(&case.executed) && (!case.reads_clock && bit_at(case.lasting.below, k))
+}
+
 /// Whether an action writes a value into a register, and does nothing else.
 fn is_write(action: &Action) -> bool
     ensures { result ≡ spec.is_write action.now }
@@ -232,7 +243,7 @@ fn is_write(action: &Action) -> bool
 /// The bits that aren't needed, and none where a read of the cycle counter is completed.
 pub fn unneeded(reads_clock: bool, needed: u32) -> u32
     ensures clock { reads_clock ≡ true → result ≡ 0 }
-    ensures bits { reads_clock ≡ false → IsMaskBelow 32 (λ i. bit_at needed i ≡ 0) result }
+    ensures bits { reads_clock ≡ false → IsMaskBelow 32 (λ i. bit_of_number needed i ≡ 0) result }
 {
     if reads_clock { 0 } else { needed ^ u32::MAX }
 }

@@ -4,7 +4,7 @@ use Rattle.eval_mask.proofs.FreeValues.{below_field, nothing_field}
 use Rattle.eval_mask.proofs.Masked.{no_both}
 use Rattle.eval_mask.proofs.MaskLoops.{mask_kept, mask_set, mask_start}
 use Rattle.eval_mask.proofs.latches.result_bits.Goals as goal
-use Rattle.eval_mask.proofs.latches.result_bits.Goals.{then-executed_bit, else-executed_bit}
+use Rattle.eval_mask.proofs.latches.result_bits.Goals.{then-result_bit, else-result_bit}
 
 pub returns-then-is_nothing : goal.returns-then-is_nothing
 returns-then-is_nothing c =
@@ -26,10 +26,10 @@ loop-k-preserved c =
     let case = c.args.case.now in
     let l : Latches = record { w = c.args.w.now; m = c.args.m.now; d = c.args.d.now } in
     let P = λ (k : ℕ). IsExecutedMasked c.args.needs.now c.args.arch.now l case.oldest.value case.npc case.issued (11 + k) in
-    elim c.if-executed_bit.branch [
-      | then-executed_bit w ↦
+    elim c.if-result_bit.branch [
+      | then-result_bit w ↦
           rw w.mask-is
-          (mask_set 32 c.loop-k.k c.loop-k.mask P (omega (arith, c.loop-k-test.true)) c.loop-k.invariant (c.executed_bit.ensures.0 w.if-executed_bit.true))
-      | else-executed_bit w ↦
-          rw w.mask-is (mask_kept c.loop-k.k c.loop-k.mask P c.loop-k.invariant (λ p. no_both _ (c.executed_bit.ensures.1 p) w.if-executed_bit.false))
+          (mask_set 32 c.loop-k.k c.loop-k.mask P (omega (arith, c.loop-k-test.true)) c.loop-k.invariant (c.result_bit.ensures.0 w.if-result_bit.true))
+      | else-result_bit w ↦
+          rw w.mask-is (mask_kept c.loop-k.k c.loop-k.mask P c.loop-k.invariant (λ p. no_both _ (c.result_bit.ensures.1 p) w.if-result_bit.false))
     ]
