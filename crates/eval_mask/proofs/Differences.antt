@@ -161,7 +161,11 @@ both_covered needs j f g a b s t = record { same = inr (s, t) }
 pub covered_all : (needs : Needs) (j : ℕ) (f g : ℕ → ℕ) (a : Option Store) → SameBytes needs j f g → SameCovered needs j f g a
 covered_all needs j f g a s = record { same = λ p c. s.same p }
 
-pub ruleset bytes_told = (same_stores, both_covered, covered_all)
+pub place_covered : (needs : Needs) (j : ℕ) (f g : ℕ → ℕ) (a b : Option Store) → ((p : ℕ) → covers a p ≡ covers b p) → SameCovered needs j f g b
+    → SameCovered needs j f g a
+place_covered needs j f g a b e s = record { same = λ p c. s.same p (sym (e p) ∙ c) }
+
+pub ruleset bytes_told = (same_stores, both_covered, covered_all, place_covered)
 
 pub all_bytes : (needs : Needs) (j : ℕ) (f : ℕ → ℕ) (x y : Aftermath)
     → SameStored needs j (memory_after x f) (memory_after y f) x.below.store y.below.store

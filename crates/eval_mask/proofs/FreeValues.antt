@@ -4,14 +4,12 @@ use Rattle.std.specs.Int.{bit_at}
 use Rattle.std.specs.Prelude.{◌==◌, bit_xor, IsTrue, not, if◌then◌else◌}
 use Rattle.std.proofs.lemmas.Bool.{cases_eq, cases_lt}
 use Rattle.std.proofs.lemmas.Bool.Decides.{nat_tests}
-use Rattle.std.proofs.lemmas.Nat.Bits.{bit_at-lt, bit_at-zero, bit_at_above, bit_at_ones, bit_at_ones_above, bit_at_xor, bit_at-pow_same, bit_at-pow_other}
+use Rattle.std.proofs.lemmas.Nat.Bits.{bit_at-lt, bit_at_above, bit_at_ones, bit_at_ones_above, bit_at_xor, bit_at-pow_same, bit_at-pow_other}
 use Rattle.elf_load.specs.Image.{LoadedImage}
 use Rattle.bit_field.specs.Layouts.{flip}
 use Rattle.rv_table.specs.declared.action.Action.{Action}
-use Rattle.rv_table.specs.declared.action.Action.TheVariants.{Nothing, Writes, Loads}
+use Rattle.rv_table.specs.declared.action.Action.TheVariants.{Nothing, Writes}
 use Rattle.rv_isa.specs.Architecture.{ArchState, state_of}
-use Rattle.pipe_latch.specs.ExecutedBits as executed
-use Rattle.pipe_latch.specs.ResultBits as result
 use Rattle.pipe_latch.specs.LatchedActions.{action_by, action_of, kind_of}
 use Rattle.pipe_latch.specs.Latches.{DecodedLatch, ExecutedLatch, ResultLatch}
 use Rattle.pipe_latch.specs.declared.kinds.ExMemKind.{ExMemKind}

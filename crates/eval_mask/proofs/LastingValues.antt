@@ -1,7 +1,7 @@
 -- The bits of written values that are needed afterwards: with other values an aftermath agrees exactly where they are the same in those.
-use Rattle.std.proofs.Common.{◌≡◌, ◌↔◌, ℕ, ◌<◌, Bool, true, false, refl, sym, ◌∙◌, ap, subst, arith, inl, inr}
+use Rattle.std.proofs.Common.{◌≡◌, ℕ, ◌<◌, false, refl, sym, ◌∙◌, ap, subst, arith, inl, inr}
 use Rattle.std.specs.Int.{bit_at}
-use Rattle.std.specs.Prelude.{◌==◌, Option, Some, None, is_none, if◌then◌else◌}
+use Rattle.std.specs.Prelude.{Option, Some, None, is_none}
 use Rattle.std.proofs.lemmas.Bool.{cases_eq, cases_lt}
 use Rattle.std.proofs.lemmas.Bool.Decides.{nat_tests}
 use Rattle.std.proofs.lemmas.Nat.Bits.{bit_at-zero}
@@ -9,7 +9,7 @@ use Rattle.avf_base.specs.declared.end.End.{End}
 use Rattle.need_pass.specs.Tables.{Needs, reg_need}
 use Rattle.eval_mask.specs.Aftermaths.{registers_after, state_after, written}
 use Rattle.eval_mask.specs.Agreement.{Agree}
-use Rattle.eval_mask.specs.Compared.{SameNext, SameRegister, SameWhere, need_at}
+use Rattle.eval_mask.specs.Compared.{SameWhere, need_at}
 use Rattle.eval_mask.specs.Values.{IsLasting, unless_replaced, with_values}
 use Rattle.eval_mask.specs.declared.completing.Aftermath.{Aftermath}
 use Rattle.eval_mask.specs.declared.completing.Write.{Write}

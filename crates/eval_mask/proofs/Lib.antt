@@ -9,6 +9,7 @@ pub mod FreeValues
 pub mod LastingValues
 pub mod Masked
 pub mod Moved
+pub mod OtherStores
 pub mod OwnChange
 pub mod Puts
 pub mod Rows

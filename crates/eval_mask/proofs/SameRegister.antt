@@ -1,9 +1,7 @@
 -- Whatever its operands are, an instruction that doesn't end the run writes the same register; so another value of EX/MEM stays seen where it
 -- lasts.
-use Rattle.std.proofs.Common.{◌≡◌, ◌↔◌, ℕ, ◌*◌, ◌/◌, ◌<◌, Bool, true, false, refl, sym, ◌∙◌, ap, subst, arith}
-use Rattle.std.specs.Int.{bit_at}
-use Rattle.std.specs.Prelude.{◌==◌, ◌&&◌, not, IsTrue, Option, Some, None, slice_index, if◌then◌else◌}
-use Rattle.avf_base.specs.declared.end.End.{End}
+use Rattle.std.proofs.Common.{◌≡◌, ℕ, ◌/◌, Bool, true, false, refl, sym, ◌∙◌, ap, subst, arith}
+use Rattle.std.specs.Prelude.{◌==◌, ◌&&◌, not, None, slice_index, if◌then◌else◌}
 use Rattle.elf_load.specs.Image.{LoadedImage, executable, word_in_ram}
 use Rattle.rv_table.specs.Actions.{action, asked, asked_by, is_aligned, judged, misses_target, some_executable, with_counter}
 use Rattle.rv_table.specs.Arithmetic.{sum32}
@@ -13,16 +11,15 @@ use Rattle.rv_table.specs.Effects.{written_register}
 use Rattle.rv_table.specs.Operations.{operation_of}
 use Rattle.rv_table.specs.declared.op.Op.{Op}
 use Rattle.rv_table.specs.declared.action.Action.{Action}
-use Rattle.rv_table.specs.declared.action.Action.TheVariants.{Exits, Loads, Nothing, Puts, Stores, Traps, Writes}
+use Rattle.rv_table.specs.declared.action.Action.TheVariants.{Exits, Loads, Puts, Stores, Traps, Writes}
 use Rattle.rv_table.specs.declared.operation.Operation.{Operation}
 use Rattle.rv_table.specs.declared.operation.Operation.TheVariants.{Illegal, FetchFault, Lui, Auipc, Jal, Jalr, Branch, Load, Store}
 use Rattle.rv_table.specs.declared.operation.Operation.TheVariants.{AluImmediate, Alu, Fence, Ecall, Ebreak, ReadCounter}
 use Rattle.rv_isa.specs.Architecture.{ArchState, state_of}
 use Rattle.rv_isa.specs.Instruction.{end_of}
-use Rattle.pipe_latch.specs.LatchedActions.{action_of}
 use Rattle.pipe_latch.specs.Latches.{DecodedLatch, ExecutedLatch, ResultLatch, op_of_latch}
 use Rattle.need_pass.specs.Tables.{Needs}
-use Rattle.eval_mask.specs.Aftermaths.{change_of, doing_after, doing_with, left_by, operand_after, state_after, written}
+use Rattle.eval_mask.specs.Aftermaths.{change_of, doing_after, doing_with, left_by, state_after, written}
 use Rattle.eval_mask.specs.Agreement.{Agree}
 use Rattle.eval_mask.specs.Cases.{AgreesWithOwn, IsCase}
 use Rattle.eval_mask.specs.Compared.{SameWhere}

@@ -333,7 +333,7 @@ same_completed : (needs : Needs) (arch : ArchState) (w : ResultLatch) (m n : Exe
 same_completed needs arch w m n d case below value is o =
     ap (λ (end : Option End). d.valid && (is_none end && d.pc == case.npc)) (same_end needs arch w m n d case below value is o) ∙ sym is.reached
 
-stopped_if : (t : Bool) (image : LoadedImage) (first : Write) (below : Change) (doing : Doing) (memory : ℕ → ℕ) (npc : ℕ) (end : Option End) (own : Aftermath) (change : Change)
+pub stopped_if : (t : Bool) (image : LoadedImage) (first : Write) (below : Change) (doing : Doing) (memory : ℕ → ℕ) (npc : ℕ) (end : Option End) (own : Aftermath) (change : Change)
     → t ≡ false → own ≡ (if t then left_by image first below doing memory else record { first = first; below = below; above = no_change; pc = npc; end = end })
     → (record own { below = change }) ≡ record { first = first; below = change; above = no_change; pc = npc; end = end }
 stopped_if true image first below doing memory npc end own change t e = absurd (not_both true refl t)
@@ -373,7 +373,7 @@ below_is needs arch w m n d case below value is o =
     (sym (same_end needs arch w m n d case below value is o))
     ∙ sym (ap theirs (same_completed needs arch w m n d case below value is o ∙ off)))
 
-clock_by : (arch : ArchState) (w : ResultLatch) (m n : ExecutedLatch) (d : DecodedLatch) (rd old npc x : ℕ) → is_completed n d npc ≡ is_completed m d npc
+pub clock_by : (arch : ArchState) (w : ResultLatch) (m n : ExecutedLatch) (d : DecodedLatch) (rd old npc x : ℕ) → is_completed n d npc ≡ is_completed m d npc
     → reads_clock arch.image (record { w = w; m = n; d = d }) (base_of arch rd old npc x)
     ≡ reads_clock arch.image (record { w = w; m = m; d = d }) (base_of arch rd old npc x)
 unfolding reads_clock

@@ -5,6 +5,7 @@ pub mod Compared
 pub mod Effects
 pub mod LatchMasks
 pub mod Seems
+pub mod Stores
 pub mod Unread
 pub mod Values
 pub mod WordMasks

@@ -1,11 +1,11 @@
 // Whether two aftermaths agree where it is needed.
-ghost use Rattle.std.specs.Prelude.{◌≡◌, ◌↔◌, ◌+◌, ◌^◌, ◌<◌, ◌≤◌, IsTrue, Some, slice_index};
+ghost use Rattle.std.specs.Prelude.{◌≡◌, ◌↔◌, ◌+◌, ◌^◌, ◌<◌, ◌≤◌, ℕ, IsTrue, Some, slice_index};
 ghost use Rattle.need_pass.specs.Tables.{byte_need, reg_need};
 ghost use Rattle.rv_isa.specs.Architecture.{state_of};
 ghost use Rattle.eval_mask.specs.Aftermaths.{memory_after, output_after, registers_after, state_after, written};
 ghost use Rattle.eval_mask.specs.Agreement.{Agree};
 ghost use Rattle.eval_mask.specs.Compared as spec;
-ghost use Rattle.eval_mask.specs.Compared.{IsKnown, SameByte, SameBytes, SameCovered, SameNext, SameRegister, SameRegisters, SameRun, SameStored, SameWhere, SameWritten, first_of, second_of};
+ghost use Rattle.eval_mask.specs.Compared.{IsKnown, SameByte, SameBytes, SameCovered, SameNext, SameRegister, SameRegisters, SameRun, SameStored, SameWhere, SameWritten, covers, first_of, second_of};
 
 use crate::completing::{Aftermath, Store, Write, register_over};
 use avf_base::End;
@@ -327,9 +327,20 @@ pub fn same_store(a: &Option<Store>, b: &Option<Store>) -> bool
     *a == *b
 }
 
+/// Whether two stores write the same bytes, or neither is one.
+fn same_place(a: &Option<Store>, b: &Option<Store>) -> bool
+    ensures { IsTrue result → (p : ℕ) → covers a.now p ≡ covers b.now p }
+{
+    match (*a, *b) {
+        (Some(a), Some(b)) => a.kind == b.kind && a.address == b.address,
+        (None, None) => true,
+        _ => false,
+    }
+}
+
 /// Whether two stores, one of each aftermath, are the same, or the bytes that they write are the same where they are needed.
 #[tactic(auto, using(crate::proofs::Differences::bytes_told))]
-fn same_overwritten(
+pub fn same_overwritten(
     arch: &Arch<'_>,
     needs: &NeedTable,
     at: u32,
@@ -343,8 +354,8 @@ fn same_overwritten(
     ensures all { SameBytes needs.now at (memory_after left.now (state_of arch.now).memory) (memory_after other.now (state_of arch.now).memory) → IsTrue result }
 {
     same_store(a, b)
-        || same_covered(arch, needs, at, left, other, a)
-            && same_covered(arch, needs, at, left, other, b)
+        || same_covered(arch, needs, at, left, other, b)
+            && (same_place(a, b) || same_covered(arch, needs, at, left, other, a))
 }
 
 /// Whether all bytes are the same where they are needed. Only a byte that is stored differently can differ.

@@ -170,7 +170,7 @@ fn given(arch: &Arch<'_>, under: &Option<Store>, action: &Action) -> u32
 }
 
 /// The store that an action makes; one outside RAM is dropped.
-fn store_by(image: &Image, action: &Action) -> Option<Store>
+pub fn store_by(image: &Image, action: &Action) -> Option<Store>
     ensures { result ≡ spec.store_by image.now action.now }
 {
     match *action {

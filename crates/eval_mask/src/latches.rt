@@ -1,15 +1,17 @@
 // The masks of the latches.
-ghost use Rattle.std.specs.Prelude.{◌≡◌, ◌↔◌, ◌+◌, ◌<◌, ◌≤◌, IsTrue};
+ghost use Rattle.std.specs.Prelude.{◌≡◌, ◌↔◌, ◌+◌, ◌<◌, ◌≤◌, IsTrue, Some};
 ghost use Rattle.rv_table.specs.declared.action.Action.TheVariants.{Nothing};
 ghost use Rattle.eval_mask.specs.Cases.{IsCase, IsMaskBelow};
+ghost use Rattle.eval_mask.specs.Stores.{lone_store};
 ghost use Rattle.eval_mask.specs.LatchMasks.{HasBits, IsExecutedMasked, IsLatchMask, IsResultMasked};
 ghost use Rattle.eval_mask.specs.Unread.{is_store};
 
 use crate::cases::{
     Case, case_of, is_kept, is_masked, is_unmoved, left_with, same_action, same_left,
 };
-use crate::completing::{Aftermath, action_change, write_held};
+use crate::completing::{Aftermath, Store, action_change, write_held};
 use crate::decoded::{decoded_bits, whole_field, with_field};
+use crate::stores::{is_data_masked, is_place_masked, lone_store};
 use crate::values::{
     is_first_free, is_needed_result, is_result_free, known_below, known_first, unneeded,
 };
@@ -141,6 +143,54 @@ fn result_bit(
     executed_bit(w, m, d, arch, needs, case, 11 + k)
 }
 
+/// The masked bits of the address of EX/MEM's store.
+fn place_bits(
+    w: &MemWb,
+    m: &ExMem,
+    d: &IdEx,
+    arch: &Arch<'_>,
+    needs: &NeedTable,
+    case: &Case,
+    store: &Store,
+) -> u32
+    requires within { case.now.first_after ≤ needs.now.count }
+    requires case { IsCase needs.now arch.now w.now m.now d.now case.now }
+    requires store { lone_store case.now ≡ Some store.now }
+    ensures { IsMaskBelow 32 (λ i. IsExecutedMasked needs.now arch.now (record { w = w.now; m = m.now; d = d.now }) case.now.oldest.value case.now.npc case.now.issued (11 + i)) result }
+{
+    let mut mask: u32 = 0;
+    for k in 0..32u32 {
+        if is_place_masked(arch, needs, case, store, k) {
+            mask |= 1 << k;
+        }
+    }
+    mask
+}
+
+/// The masked bits of the value of EX/MEM's store.
+fn data_bits(
+    w: &MemWb,
+    m: &ExMem,
+    d: &IdEx,
+    arch: &Arch<'_>,
+    needs: &NeedTable,
+    case: &Case,
+    store: &Store,
+) -> u32
+    requires within { case.now.first_after ≤ needs.now.count }
+    requires case { IsCase needs.now arch.now w.now m.now d.now case.now }
+    requires store { lone_store case.now ≡ Some store.now }
+    ensures { IsMaskBelow 32 (λ i. IsExecutedMasked needs.now arch.now (record { w = w.now; m = m.now; d = d.now }) case.now.oldest.value case.now.npc case.now.issued (43 + i)) result }
+{
+    let mut mask: u32 = 0;
+    for k in 0..32u32 {
+        if is_data_masked(arch, needs, case, store, k) {
+            mask |= 1 << k;
+        }
+    }
+    mask
+}
+
 /// The masked bits of EX/MEM's result or address: of a result that ID/EX doesn't take, those that aren't needed afterwards.
 fn result_bits(
     w: &MemWb,
@@ -159,6 +209,9 @@ fn result_bits(
     }
     if is_result_free(case, d) {
         return unneeded(case.reads_clock, case.lasting.below);
+    }
+    if let Some(store) = lone_store(case) {
+        return place_bits(w, m, d, arch, needs, case, &store);
     }
     let mut mask: u32 = 0;
     for k in 0..32u32 {
@@ -198,6 +251,9 @@ fn stored_bits(
 {
     if !is_store(&case.executed) {
         return whole_field(case.reads_clock);
+    }
+    if let Some(store) = lone_store(case) {
+        return data_bits(w, m, d, arch, needs, case, &store);
     }
     let mut mask: u32 = 0;
     for k in 0..32u32 {

@@ -5,6 +5,7 @@
 // - cases: what the latches leave as they are, worked out once, and whether flipped ones leave the same;
 // - unread: which fields of ID/EX the instruction doesn't read;
 // - values: other values in place of those that the latches write;
+// - stores: other stores in place of EX/MEM's;
 // - decoded: the masks of ID/EX;
 // - latches: the masks of the latches;
 // - words: the mask of an instruction word.
@@ -15,6 +16,7 @@ mod compare;
 mod completing;
 mod decoded;
 mod latches;
+mod stores;
 mod unread;
 mod values;
 mod words;
