@@ -19,7 +19,7 @@ use Rattle.eval_mask.specs.Aftermaths.{change_of}
 use Rattle.eval_mask.specs.Cases.{IsCase, IsMaskBelow}
 use Rattle.eval_mask.specs.Compared.{SameWhere}
 use Rattle.eval_mask.specs.LatchMasks.{IsExecutedMasked, IsResultMasked}
-use Rattle.eval_mask.specs.Values.{SameValues, is_taken, is_write, with_value}
+use Rattle.eval_mask.specs.WrittenValues.{SameValues, is_taken, is_write, with_value}
 use Rattle.eval_mask.specs.declared.cases.Case.{Case}
 use Rattle.eval_mask.specs.declared.completing.Change.{Change}
 use Rattle.eval_mask.specs.declared.completing.Write.{Write}

@@ -10,10 +10,10 @@ use Rattle.need_pass.specs.Tables.{Needs, reg_need}
 use Rattle.eval_mask.specs.Aftermaths.{registers_after, state_after, written}
 use Rattle.eval_mask.specs.Agreement.{Agree}
 use Rattle.eval_mask.specs.Compared.{SameWhere, need_at}
-use Rattle.eval_mask.specs.Values.{IsLasting, unless_replaced, with_values}
+use Rattle.eval_mask.specs.WrittenValues.{IsLasting, unless_replaced, with_values}
 use Rattle.eval_mask.specs.declared.completing.Aftermath.{Aftermath}
 use Rattle.eval_mask.specs.declared.completing.Write.{Write}
-use Rattle.eval_mask.specs.declared.values.Lasting.{Lasting}
+use Rattle.eval_mask.specs.declared.written.Lasting.{Lasting}
 use Rattle.eval_mask.proofs.Agreeing.{agree_by, agree_end, agree_next}
 use Rattle.eval_mask.proofs.Differences.{need_inside, same_all}
 

@@ -23,7 +23,7 @@ use Rattle.eval_mask.specs.Aftermaths.{change_of, doing_after, doing_with, left_
 use Rattle.eval_mask.specs.Agreement.{Agree}
 use Rattle.eval_mask.specs.Cases.{AgreesWithOwn, IsCase}
 use Rattle.eval_mask.specs.Compared.{SameWhere}
-use Rattle.eval_mask.specs.Values.{left_below, with_value}
+use Rattle.eval_mask.specs.WrittenValues.{left_below, with_value}
 use Rattle.eval_mask.specs.declared.cases.Case.{Case}
 use Rattle.eval_mask.specs.declared.completing.Aftermath.{Aftermath}
 use Rattle.eval_mask.specs.declared.completing.Change.{Change}

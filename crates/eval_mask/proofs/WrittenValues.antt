@@ -17,7 +17,7 @@ use Rattle.need_pass.specs.Tables.{Needs}
 use Rattle.eval_mask.specs.Aftermaths.{aftermath_of, change_of, doing_after, doing_of, doing_with, is_completed, left_by, no_change, operand_after, plain_doing, written}
 use Rattle.eval_mask.specs.Cases.{AgreesWithOwn, IsCase}
 use Rattle.eval_mask.specs.LatchMasks.{base_of, reads_clock}
-use Rattle.eval_mask.specs.Values.{SameValues, is_taken, left_below, left_first, operand_given, plain_by, plain_value, with_value, with_values}
+use Rattle.eval_mask.specs.WrittenValues.{SameValues, is_taken, left_below, left_first, operand_given, plain_by, plain_value, with_value, with_values}
 use Rattle.eval_mask.specs.declared.cases.Case.{Case}
 use Rattle.eval_mask.specs.declared.completing.Aftermath.{Aftermath}
 use Rattle.eval_mask.specs.declared.completing.Change.{Change}

@@ -11,7 +11,7 @@ use Rattle.eval_mask.specs.Aftermaths.{aftermath_of, doing_of, is_completed, ope
 use Rattle.eval_mask.specs.Agreement.{Agree}
 use Rattle.eval_mask.specs.Compared.{IsKnown, need_at}
 use Rattle.eval_mask.specs.LatchMasks.{base_of, first_after, is_on_path, reads_clock}
-use Rattle.eval_mask.specs.Values.{IsLasting}
+use Rattle.eval_mask.specs.WrittenValues.{IsLasting}
 use Rattle.eval_mask.specs.declared.completing.Aftermath.{Aftermath}
 use Rattle.eval_mask.specs.declared.completing.Write.{Write}
 use Rattle.eval_mask.specs.declared.cases.Case.{Case}

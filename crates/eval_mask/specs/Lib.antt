@@ -7,5 +7,5 @@ pub mod LatchMasks
 pub mod Seems
 pub mod Stores
 pub mod Unread
-pub mod Values
 pub mod WordMasks
+pub mod WrittenValues

@@ -16,7 +16,7 @@ use crate::completing::{
     Aftermath, Change, Doing, Write, completed, doing_of, executed_change, is_completed, left_by,
     operand_after,
 };
-use crate::values::{Lasting, lasting_bits};
+use crate::written::{Lasting, lasting_bits};
 use need_pass::NeedTable;
 use pipe_latch::{ExMem, IdEx, MemWb};
 use rv_isa::Arch;

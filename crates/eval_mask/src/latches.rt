@@ -12,7 +12,7 @@ use crate::cases::{
 use crate::completing::{Aftermath, Store, action_change, write_held};
 use crate::decoded::{decoded_bits, whole_field, with_field};
 use crate::stores::{is_data_masked, is_place_masked, lone_store};
-use crate::values::{
+use crate::written::{
     is_first_free, is_needed_result, is_result_free, known_below, known_first, unneeded,
 };
 use bit_field::Struck;

@@ -4,7 +4,7 @@
 // - compare: whether two such aftermaths agree where it is needed;
 // - cases: what the latches leave as they are, worked out once, and whether flipped ones leave the same;
 // - unread: which fields of ID/EX the instruction doesn't read;
-// - values: other values in place of those that the latches write;
+// - written: other values in place of those that the latches write;
 // - stores: other stores in place of EX/MEM's;
 // - decoded: the masks of ID/EX;
 // - latches: the masks of the latches;
@@ -18,8 +18,8 @@ mod decoded;
 mod latches;
 mod stores;
 mod unread;
-mod values;
 mod words;
+mod written;
 
 pub use latches::{LatchMask, latch_bits};
 pub use words::word_bits;

@@ -1,7 +1,7 @@
 use Rattle.std.proofs.Common.{sym, ◌∙◌, ap, inl, inr}
 use Rattle.eval_mask.specs.declared.completing.Write.{Write}
 use Rattle.eval_mask.proofs.WrittenValues.{first_free, first_given, not_both}
-use Rattle.eval_mask.proofs.values.is_first_alike.Goals as goal
+use Rattle.eval_mask.proofs.written.is_first_alike.Goals as goal
 
 pub returns-then-is_same_register : goal.returns-then-is_same_register
 returns-then-is_same_register c =

@@ -5,8 +5,8 @@ ghost use Rattle.rv_isa.specs.Architecture.{state_of};
 ghost use Rattle.need_pass.specs.Tables.{Needs};
 ghost use Rattle.eval_mask.specs.Cases.{AgreesWithOwn, IsCase, IsMaskBelow};
 ghost use Rattle.eval_mask.specs.Compared.{need_at};
-ghost use Rattle.eval_mask.specs.Values as spec;
-ghost use Rattle.eval_mask.specs.Values.{IsLasting, SameValues};
+ghost use Rattle.eval_mask.specs.WrittenValues as spec;
+ghost use Rattle.eval_mask.specs.WrittenValues.{IsLasting, SameValues};
 
 use crate::cases::Case;
 use crate::compare::{Known, same_word};

@@ -1,6 +1,6 @@
 use Rattle.std.proofs.Common.{sym, ◌∙◌}
 use Rattle.eval_mask.proofs.WrittenValues.{below_free, below_given}
-use Rattle.eval_mask.proofs.values.is_below_alike.Goals as goal
+use Rattle.eval_mask.proofs.written.is_below_alike.Goals as goal
 
 pub returns-then-not-is_taken : goal.returns-then-not-is_taken
 returns-then-not-is_taken c =

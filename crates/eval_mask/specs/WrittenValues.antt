@@ -15,7 +15,7 @@ use Rattle.eval_mask.specs.declared.cases.Case.{Case}
 use Rattle.eval_mask.specs.declared.completing.Aftermath.{Aftermath}
 use Rattle.eval_mask.specs.declared.completing.Change.{Change}
 use Rattle.eval_mask.specs.declared.completing.Write.{Write}
-use Rattle.eval_mask.specs.declared.values.Lasting.{Lasting}
+use Rattle.eval_mask.specs.declared.written.Lasting.{Lasting}
 
 -- the needed bits of register rd, none where it is written again
 abbrev pub unless_replaced : ℕ → ℕ → Write → ℕ
