@@ -6,6 +6,7 @@ pub mod EffectsTold
 pub mod Fields
 pub mod MaskLoops
 pub mod Masked
+pub mod Missed
 pub mod Moved
 pub mod OwnChange
 pub mod Puts

@@ -4,6 +4,7 @@ pub mod Cases
 pub mod Compared
 pub mod Effects
 pub mod LatchMasks
+pub mod OtherDoings
 pub mod Seems
 pub mod Unread
 pub mod WordMasks

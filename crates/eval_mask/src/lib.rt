@@ -14,6 +14,7 @@ mod compare;
 mod completing;
 mod decoded;
 mod latches;
+mod needed;
 mod unread;
 mod words;
 
