@@ -5,6 +5,7 @@ pub mod Compared
 pub mod Effects
 pub mod LatchMasks
 pub mod OtherDoings
+pub mod QuickDoings
 pub mod Seems
 pub mod Unread
 pub mod WordMasks

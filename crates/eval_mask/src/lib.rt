@@ -15,6 +15,7 @@ mod completing;
 mod decoded;
 mod latches;
 mod needed;
+mod quick;
 mod unread;
 mod words;
 
