@@ -10,6 +10,7 @@ pub mod Missed
 pub mod Moved
 pub mod OwnChange
 pub mod Puts
+pub mod QuickDoings
 pub mod Rows
 pub mod Seeming
 pub mod UnderLog

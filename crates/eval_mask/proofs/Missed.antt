@@ -1,12 +1,9 @@
 -- Doings of ID/EX that can't leave the same: they part from the latches as they are, or miss what these need.
-use Rattle.std.proofs.Common.{◌≡◌, ℕ, ◌/◌, ◌<◌, Bool, true, false, refl, sym, ◌∙◌, ap, subst, arith, inl, inr}
+use Rattle.std.proofs.Common.{◌≡◌, ℕ, ◌/◌, Bool, true, false, refl, sym, ◌∙◌, ap, subst, arith, inl, inr}
 use Rattle.std.specs.Prelude.{Option, Some, None, [], if◌then◌else◌, slice_index}
 use Rattle.std.proofs.lemmas.Bool.{cases_eq, eqb-true}
-use Rattle.std.proofs.lemmas.Bool.Decides.{nat_tests}
 use Rattle.elf_load.specs.Image.{LoadedImage, word_in_ram}
 use Rattle.rv_table.specs.Accesses.{accesses, store_size}
-use Rattle.rv_table.specs.Effects.{written_register}
-use Rattle.rv_table.specs.declared.action.Action.{Action}
 use Rattle.rv_table.specs.declared.action.Action.TheVariants.{Stores}
 use Rattle.rv_table.specs.declared.operation.StoreKind.{StoreKind}
 use Rattle.rv_table.specs.declared.operation.StoreKind.TheVariants.{Sb, Sh, Sw}
@@ -14,7 +11,7 @@ use Rattle.rv_isa.specs.Architecture.{ArchState, state_of}
 use Rattle.rv_isa.specs.Instruction.{with_byte}
 use Rattle.need_pass.specs.Tables.{Needs, byte_need, reg_need}
 use Rattle.eval_mask.specs.Aftermaths.{change_of, left_by, no_change, store_by, stored_over, written}
-use Rattle.eval_mask.specs.Compared.{SameByte, SameBytes, SameRegister, SameRegisters, SameWhere, covers}
+use Rattle.eval_mask.specs.Compared.{SameByte, SameBytes, SameRegisters, SameWhere, covers}
 use Rattle.eval_mask.specs.OtherDoings.{DoesAlike, Misses, NeedsOwn, Parts}
 use Rattle.eval_mask.specs.declared.cases.Case.{Case}
 use Rattle.eval_mask.specs.declared.completing.Aftermath.{Aftermath}

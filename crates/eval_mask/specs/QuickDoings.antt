@@ -17,11 +17,11 @@ abbrev pub judged_in : LoadedImage → Action → Action
 judged_in image done = judged (word_in_ram image) (executable image) done
 
 -- a branch to a target that is no multiple of 4 traps
-abbrev pub branch_doing : LoadedImage → DecodedLatch → BranchKind → ℕ → ℕ → Doing
-branch_doing image d kind a b =
+abbrev pub branch_doing : DecodedLatch → BranchKind → ℕ → ℕ → Doing
+branch_doing d kind a b =
     let target = if holds kind a b then sum32 (4 * d.pc) d.imm else sum32 (4 * d.pc) 4 in
     record {
-      action = judged_in image (if holds kind a b && not (is_aligned 4 target) then Traps MISALIGNED_TARGET else Writes 0 0);
+      action = if holds kind a b && not (is_aligned 4 target) then Traps MISALIGNED_TARGET else Writes 0 0;
       next = if holds kind a b && is_aligned 4 target then target / 4 else next_word d.pc;
     }
 

@@ -1,6 +1,6 @@
 // What branches, loads and stores in ID/EX do, without the operation.
 ghost use Rattle.std.specs.Prelude.{◌≡◌, ◌/◌, true};
-ghost use Rattle.elf_load.specs.Image.{LoadedImage, executable, word_in_ram};
+ghost use Rattle.elf_load.specs.Image.{executable, word_in_ram};
 ghost use Rattle.rv_table.specs.Accesses.{store_size};
 ghost use Rattle.rv_table.specs.Actions.{load_asked, some_executable, store_asked};
 ghost use Rattle.eval_mask.specs.QuickDoings as spec;
@@ -11,9 +11,8 @@ use pipe_latch::IdEx;
 use rv_table::{Action, BranchKind, LoadKind, StoreKind, holds, trap};
 
 /// What a branch does with operands a and b.
-#[tactic(auto, unfolding(rv_table::specs::Actions::judged))]
 pub fn branch_doing(d: &IdEx, kind: BranchKind, a: u32, b: u32) -> Doing
-    ensures { (image : LoadedImage) → result ≡ spec.branch_doing image d.now kind a b }
+    ensures { result ≡ spec.branch_doing d.now kind a b }
 {
     let target = (4 * d.pc).wrapping_add(d.imm);
     let next = (d.pc + 1) % 0x4000_0000;
