@@ -11,6 +11,7 @@ pub mod Moved
 pub mod OwnChange
 pub mod Puts
 pub mod QuickDoings
+pub mod ReadInputs
 pub mod Rows
 pub mod Seeming
 pub mod UnderLog

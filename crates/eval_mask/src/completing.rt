@@ -308,6 +308,7 @@ pub fn doing_with(d: &IdEx, a: u32, held: u32, issued: u32, image: &Image) -> Do
 {
     match operation_of(d.op) {
         Operation::Lui => plain_doing(d, d.imm),
+        Operation::Auipc => plain_doing(d, (4 * d.pc).wrapping_add(d.imm)),
         Operation::AluImmediate(kind) => immediate_doing(d, kind, a),
         Operation::Alu(kind) => plain_doing(d, alu(kind, a, held)),
         Operation::Branch(kind) => branch_doing(d, kind, a, held),
