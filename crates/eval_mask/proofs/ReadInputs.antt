@@ -1,6 +1,7 @@
 -- Bits of what a completed ID/EX reads.
-use Rattle.std.proofs.Common.{◌≡◌, ◌↔◌, ℕ, ◌+◌, ◌<◌, ◌≤◌, Bool, true, false, refl, sym, ◌∙◌, ap, subst, arith}
+use Rattle.std.proofs.Common.{◌≡◌, ◌↔◌, ℕ, ◌+◌, ◌-◌, ◌<◌, ◌≤◌, Bool, true, false, refl, sym, ◌∙◌, ap, subst, arith, inl, inr}
 use Rattle.std.specs.Prelude.{◌*◌, IsTrue}
+use Rattle.std.proofs.lemmas.Bool.{cases_lt}
 use Rattle.elf_load.specs.Image.{LoadedImage}
 use Rattle.rv_table.specs.Actions.{clock_test, is_clocked, next_word}
 use Rattle.rv_table.specs.Arithmetic.{alu, sum32}
@@ -26,7 +27,7 @@ use Rattle.eval_mask.specs.declared.inputs.Input.{Input}
 use Rattle.eval_mask.specs.declared.inputs.Input.TheVariants.{A, B, Immediate}
 use Rattle.eval_mask.proofs.Completed.{alu_doing, auipc_doing, doing_told, immediate_doing, lui_doing}
 use Rattle.eval_mask.proofs.Doings.{alike_written, clock_is, doing_exactly, own_left}
-use Rattle.eval_mask.proofs.Fields.{a_flipped, b_flipped, decoded_inside, flip_keeps, immediate_flipped}
+use Rattle.eval_mask.proofs.Fields.{a_flipped, b_flipped, decoded_inside, flip_keeps, immediate_flipped, rs1_flipped, rs2_flipped}
 use Rattle.eval_mask.proofs.Masked.{decoded_exactly}
 use Rattle.eval_mask.proofs.OwnChange.{own_write}
 
@@ -144,3 +145,25 @@ pub input_inside : (input : Input) (k : ℕ) → k < 32 → (31 ≤ first_bit in
 input_inside A k l = (omega arith, omega arith)
 input_inside B k l = (omega arith, omega arith)
 input_inside Immediate k l = (omega arith, omega arith)
+
+-- the numbers of the registers
+pub number_keeps : (d : DecodedLatch) (k : ℕ) → 42 ≤ k → k < 52 → Keeps d (decoded.flipped d k)
+number_keeps d k above below =
+    elim (cases_lt k 47) [
+      | inl l ↦
+          let back : 42 + (k - 42) ≡ k = omega arith in
+          subst (λ (n : ℕ). Keeps d (decoded.flipped d n)) back (subst (Keeps d) (rs1_flipped d (k - 42) (omega arith)) (refl, refl, refl))
+      | inr l ↦
+          let back : 47 + (k - 47) ≡ k = omega arith in
+          subst (λ (n : ℕ). Keeps d (decoded.flipped d n)) back (subst (Keeps d) (rs2_flipped d (k - 47) (omega arith)) (refl, refl, refl))
+    ]
+
+pub input_above : (input : Input) → 31 ≤ first_bit input
+input_above A = omega arith
+input_above B = omega arith
+input_above Immediate = omega arith
+
+pub input_below : (input : Input) → first_bit input + 32 ≤ 148
+input_below A = omega arith
+input_below B = omega arith
+input_below Immediate = omega arith

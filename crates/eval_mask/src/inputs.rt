@@ -13,7 +13,7 @@ use crate::cases::Case;
 use crate::compare::same_word;
 use crate::completing::{Write, doing_with, operand_after};
 use crate::needed::{is_doing_masked, is_needed};
-use bit_field::flip_at_u32;
+use bit_field::{Struck, flip_at_u32};
 use need_pass::NeedTable;
 use pipe_latch::{ExMem, IdEx, MemWb};
 use rv_isa::Arch;
@@ -44,6 +44,17 @@ pub fn facts_of(arch: &Arch<'_>, needs: &NeedTable, case: &Case, d: &IdEx) -> Fa
     Facts {
         operation: operation_of(d.op),
         needed: is_needed(arch, needs, case),
+    }
+}
+
+/// The first bit of what ID/EX reads.
+pub fn first_bit(input: Input) -> u32
+    ensures { result ≡ first_bit input }
+{
+    match input {
+        Input::A => 52,
+        Input::B => 84,
+        Input::Immediate => 116,
     }
 }
 
@@ -206,5 +217,31 @@ pub fn input_bit(
     ensures { IsTrue result ↔ IsDecodedMasked needs.now arch.now (record { w = w.now; m = m.now; d = d.now }) case.now.oldest.value case.now.npc case.now.issued (first_bit input + k) }
 {
     let other = with_flip(d, input, k);
+    is_input_masked(w, m, d, arch, needs, case, facts, &other)
+}
+
+/// Whether bit `k` of ID/EX, one of its two numbers of registers that it reads, is masked, where ID/EX is completed.
+pub fn number_bit(
+    w: &MemWb,
+    m: &ExMem,
+    d: &IdEx,
+    arch: &Arch<'_>,
+    needs: &NeedTable,
+    case: &Case,
+    facts: Facts,
+    k: u32,
+) -> bool
+    requires within { case.now.first_after ≤ needs.now.count }
+    requires case { IsCase needs.now arch.now w.now m.now d.now case.now }
+    requires on_path { case.now.on_path ≡ true }
+    requires reached { case.now.reached ≡ true }
+    requires unread { case.now.reads_clock ≡ false }
+    requires facts { IsFacts needs.now arch.now d.now case.now facts }
+    requires from { 42 ≤ k }
+    requires to { k < 52 }
+    ensures { IsTrue result ↔ IsDecodedMasked needs.now arch.now (record { w = w.now; m = m.now; d = d.now }) case.now.oldest.value case.now.npc case.now.issued k }
+{
+    let mut other = *d;
+    other.flip(k);
     is_input_masked(w, m, d, arch, needs, case, facts, &other)
 }
