@@ -18,4 +18,5 @@ pub mod UnderLog
 pub mod UnreadBits
 pub mod UnreadFields
 pub mod UnreadMasks
+pub mod ValueBits
 pub mod WordBits

@@ -38,7 +38,7 @@ value_of : (image : LoadedImage) (first : Write) (below : Change) (doing : Doing
 unfolding left_by change_of
 value_of image first below doing rd y memory own e f = rw (e, f) refl
 
-plain_alike : (needs : Needs) (arch : ArchState) (case : Case) (other : DecodedLatch) (a held v y : ℕ) (r : Bool) (like : IsLike arch case other)
+pub plain_alike : (needs : Needs) (arch : ArchState) (case : Case) (other : DecodedLatch) (a held v y : ℕ) (r : Bool) (like : IsLike arch case other)
     → case.known.above.mask ≡ need_at needs case.own.above.write.rd case.first_after
     → plain_doing like.d y ≡ doing_with arch.image like.d case.issued case.a case.held
     → plain_doing other v ≡ doing_with arch.image other case.issued a held
@@ -93,7 +93,7 @@ pub ruleset plain_alikes = (lui_alike, auipc_alike, immediate_alike, alu_alike)
 
 -- ---- bits of the fields
 
-own_doing : (needs : Needs) (arch : ArchState) (w : ResultLatch) (m : ExecutedLatch) (d : DecodedLatch) (case : Case) → IsCase needs arch w m d case
+pub own_doing : (needs : Needs) (arch : ArchState) (w : ResultLatch) (m : ExecutedLatch) (d : DecodedLatch) (case : Case) → IsCase needs arch w m d case
     → case.doing ≡ doing_with arch.image d case.issued case.a case.held
 own_doing needs arch w m d case is =
     let own = case.own.below.write in
@@ -102,7 +102,7 @@ own_doing needs arch w m d case is =
     ∙ ap (λ (x : ℕ). doing_with arch.image d case.issued x (operand_after own w d.rs2 d.b)) (sym is.a)
     ∙ ap (λ (x : ℕ). doing_with arch.image d case.issued case.a x) (sym is.held)
 
-pub like_of : (needs : Needs) (arch : ArchState) (w : ResultLatch) (m : ExecutedLatch) (d other : DecodedLatch) (case : Case) → IsCase needs arch w m d case
+unfoldable pub like_of : (needs : Needs) (arch : ArchState) (w : ResultLatch) (m : ExecutedLatch) (d other : DecodedLatch) (case : Case) → IsCase needs arch w m d case
     → case.reached ≡ true → other.op ≡ d.op → other.rd ≡ d.rd → other.pc ≡ d.pc → IsLike arch case other
 like_of needs arch w m d other case is on op rd pc = record {
   d = d;

@@ -18,6 +18,7 @@ mod latches;
 mod needed;
 mod quick;
 mod unread;
+mod values;
 mod words;
 
 pub use latches::{LatchMask, latch_bits};
