@@ -5,12 +5,12 @@ use Rattle.std.proofs.lemmas.Bool.Decides.{nat_tests}
 use Rattle.elf_load.specs.Image.{LoadedImage}
 use Rattle.rv_table.specs.Accesses.{byte_of, loaded}
 use Rattle.rv_table.specs.Actions.{action, asked, asked_by, counter_by, judged, next_address, taken_by, target_by, value_by, with_counter}
-use Rattle.rv_table.specs.Arithmetic.{alu}
+use Rattle.rv_table.specs.Arithmetic.{alu, sum32}
 use Rattle.rv_table.specs.Operations.{operation_of}
 use Rattle.rv_table.specs.declared.action.Action.{Action}
 use Rattle.rv_table.specs.declared.action.Action.TheVariants.{Loads, Writes}
 use Rattle.rv_table.specs.declared.operation.AluKind.{AluKind}
-use Rattle.rv_table.specs.declared.operation.Operation.TheVariants.{Alu, AluImmediate, Lui}
+use Rattle.rv_table.specs.declared.operation.Operation.TheVariants.{Alu, AluImmediate, Auipc, Lui}
 use Rattle.rv_table.specs.declared.operation.LoadKind.{LoadKind}
 use Rattle.rv_table.proofs.Loads.{loaded-same, same_word}
 use Rattle.rv_isa.specs.Instruction.{action_in}
@@ -82,6 +82,11 @@ pub lui_doing : (image : LoadedImage) (d : DecodedLatch) (x a held : ℕ) → op
 unfolding doing_with action judged asked asked_by value_by next_address taken_by target_by with_counter counter_by
 lui_doing image d x a held e = rw e refl
 
+pub auipc_doing : (image : LoadedImage) (d : DecodedLatch) (x a held : ℕ) → operation_of d.op ≡ Auipc
+    → plain_doing d (sum32 (4 * d.pc) d.imm) ≡ doing_with image d x a held
+unfolding doing_with action judged asked asked_by value_by next_address taken_by target_by with_counter counter_by
+auipc_doing image d x a held e = rw e refl
+
 pub immediate_doing : (image : LoadedImage) (d : DecodedLatch) (x a held : ℕ) (kind : AluKind) → operation_of d.op ≡ AluImmediate kind
     → plain_doing d (alu kind a d.imm) ≡ doing_with image d x a held
 unfolding doing_with action judged asked asked_by value_by next_address taken_by target_by with_counter counter_by
@@ -92,4 +97,4 @@ pub alu_doing : (image : LoadedImage) (d : DecodedLatch) (x a held : ℕ) (kind 
 unfolding doing_with action judged asked asked_by value_by next_address taken_by target_by with_counter counter_by
 alu_doing image d x a held kind e = rw e refl
 
-pub ruleset plain_doings = (lui_doing, immediate_doing, alu_doing)
+pub ruleset plain_doings = (lui_doing, auipc_doing, immediate_doing, alu_doing)

@@ -56,7 +56,7 @@ known_mask needs r q j mask e f above below = e ∙ ap (λ (s : ℕ). need_at ne
 
 -- ---- registers
 
-unwritten : (w : Write) (f : ℕ → ℕ) (r : ℕ) → (r ≡ w.rd → ⊥) → written w f r ≡ f r
+pub unwritten : (w : Write) (f : ℕ → ℕ) (r : ℕ) → (r ≡ w.rd → ⊥) → written w f r ≡ f r
 unwritten w f r ne = grind (arith, nat_tests)
 
 write_over : (w : Write) (f g : ℕ → ℕ) (r : ℕ) → f r ≡ g r → written w f r ≡ written w g r
@@ -119,7 +119,7 @@ all_registers needs j f x y above below first =
 
 -- ---- bytes
 
-uncovered : (store : Option Store) (f : ℕ → ℕ) (p : ℕ) → covers store p ≡ false → stored_over store f p ≡ f p
+pub uncovered : (store : Option Store) (f : ℕ → ℕ) (p : ℕ) → covers store p ≡ false → stored_over store f p ≡ f p
 unfolding stored
 uncovered None f p e = refl
 uncovered (Some store) f p e = grind (arith, nat_tests)
@@ -130,7 +130,7 @@ store_over None f g p e = e
 store_over (Some store) f g p e = grind (arith, nat_tests)
 
 -- what holds where a test does and where it doesn't
-if_or : (P : Type 0) (t : Bool) → (t ≡ true → P) → (t ≡ false → P) → P
+pub if_or : (P : Type 0) (t : Bool) → (t ≡ true → P) → (t ≡ false → P) → P
 if_or P true here there = here refl
 if_or P false here there = there refl
 

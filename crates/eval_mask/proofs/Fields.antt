@@ -138,7 +138,7 @@ pub flip_keeps : (d : DecodedLatch) (k : ℕ) → 31 ≤ k → k < 148
     → ((decoded.flipped d k).valid ≡ d.valid) × ((decoded.flipped d k).pc ≡ d.pc)
 flip_keeps d k h l = keeps_by d (decoded.field_of k) (decoded_inside k h l)
 
--- ---- the fields of 32 bits
+-- ---- the fields of operands and registers
 
 skip : {F : Type 0} (width : F → ℕ) (before rest : List F) (i : ℕ) → located width (before ++ rest) (bits_of width before + i) ≡ located width rest i
 skip width [] rest i = ap (located width rest) (omega arith)
@@ -149,6 +149,12 @@ skip width (f ∷ fs) rest i =
 place_of : {F : Type 0} (width : F → ℕ) (before : List F) (f : F) (after : List F) (i : ℕ) → i < width f
     → located width (before ++ (f ∷ after)) (bits_of width before + i) ≡ Some (f, i)
 place_of width before f after i l = skip width before (f ∷ after) i ∙ located-here width f after i l
+
+pub rs1_flipped : (d : DecodedLatch) (i : ℕ) → i < 5 → (record d { rs1 = flip d.rs1 i }) ≡ decoded.flipped d (42 + i)
+rs1_flipped d i l = sym (ap (flip_by (decoded.flip_in d) d) (place_of decoded.width (Valid ∷ Pc ∷ Op ∷ Rd ∷ []) Rs1 (Rs2 ∷ A ∷ B ∷ Imm ∷ Count ∷ []) i l))
+
+pub rs2_flipped : (d : DecodedLatch) (i : ℕ) → i < 5 → (record d { rs2 = flip d.rs2 i }) ≡ decoded.flipped d (47 + i)
+rs2_flipped d i l = sym (ap (flip_by (decoded.flip_in d) d) (place_of decoded.width (Valid ∷ Pc ∷ Op ∷ Rd ∷ Rs1 ∷ []) Rs2 (A ∷ B ∷ Imm ∷ Count ∷ []) i l))
 
 pub a_flipped : (d : DecodedLatch) (i : ℕ) → i < 32 → (record d { a = flip d.a i }) ≡ decoded.flipped d (52 + i)
 a_flipped d i l = sym (ap (flip_by (decoded.flip_in d) d) (place_of decoded.width (Valid ∷ Pc ∷ Op ∷ Rd ∷ Rs1 ∷ Rs2 ∷ []) A (B ∷ Imm ∷ Count ∷ []) i l))

@@ -8,10 +8,13 @@ pub mod MaskLoops
 pub mod FreeValues
 pub mod LastingValues
 pub mod Masked
+pub mod Missed
 pub mod Moved
 pub mod OtherStores
 pub mod OwnChange
 pub mod Puts
+pub mod QuickDoings
+pub mod ReadInputs
 pub mod Rows
 pub mod SameRegister
 pub mod Seeming
@@ -19,5 +22,6 @@ pub mod UnderLog
 pub mod UnreadBits
 pub mod UnreadFields
 pub mod UnreadMasks
+pub mod ValueBits
 pub mod WordBits
 pub mod WrittenValues

@@ -4,6 +4,8 @@ pub mod Cases
 pub mod Compared
 pub mod Effects
 pub mod LatchMasks
+pub mod OtherDoings
+pub mod QuickDoings
 pub mod Seems
 pub mod Stores
 pub mod Unread

@@ -389,7 +389,7 @@ fn same_bytes(
     )
 }
 
-fn same_end(a: Option<End>, b: Option<End>) -> bool
+pub fn same_end(a: Option<End>, b: Option<End>) -> bool
     ensures { IsTrue result ↔ (a ≡ b) }
 {
     a == b

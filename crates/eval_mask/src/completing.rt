@@ -11,6 +11,7 @@ ghost use Rattle.pipe_latch.specs.Latches.{ExecutedLatch, op_of_latch};
 ghost use Rattle.eval_mask.specs.Aftermaths as spec;
 ghost use Rattle.eval_mask.specs.Aftermaths.{memory_after, registers_after, stored_over, written};
 
+use crate::quick::{branch_doing, load_doing, store_doing};
 use avf_base::End;
 use elf_load::Image;
 use pipe_latch::{ExMem, IdEx, MemWb, execute};
@@ -301,14 +302,18 @@ fn immediate_doing(d: &IdEx, kind: AluKind, a: u32) -> Doing
 }
 
 /// The same as `any_doing`, quickly for most instructions.
-#[tactic(auto, using(crate::proofs::Completed::plain_doings))]
-fn doing_with(d: &IdEx, a: u32, held: u32, issued: u32, image: &Image) -> Doing
+#[tactic(auto, using(crate::proofs::Completed::plain_doings, crate::proofs::QuickDoings::quick_doings))]
+pub fn doing_with(d: &IdEx, a: u32, held: u32, issued: u32, image: &Image) -> Doing
     ensures { result ≡ spec.doing_with image.now d.now issued a held }
 {
     match operation_of(d.op) {
         Operation::Lui => plain_doing(d, d.imm),
+        Operation::Auipc => plain_doing(d, (4 * d.pc).wrapping_add(d.imm)),
         Operation::AluImmediate(kind) => immediate_doing(d, kind, a),
         Operation::Alu(kind) => plain_doing(d, alu(kind, a, held)),
+        Operation::Branch(kind) => branch_doing(d, kind, a, held),
+        Operation::Load(kind) => load_doing(d, kind, a, image),
+        Operation::Store(kind) => store_doing(d, kind, a, held, image),
         _ => any_doing(d, a, held, issued, image),
     }
 }

@@ -1,12 +1,15 @@
 // The masks of ID/EX.
-ghost use Rattle.std.specs.Prelude.{◌≡◌, ◌↔◌, ◌+◌, ◌-◌, ◌*◌, ◌%◌, ◌^◌, ◌<◌, ◌≤◌, ℕ, IsTrue, bit_or, true, if◌then◌else◌};
+ghost use Rattle.std.specs.Prelude.{◌≡◌, ◌↔◌, ◌+◌, ◌-◌, ◌*◌, ◌%◌, ◌^◌, ◌<◌, ◌≤◌, ℕ, IsTrue, bit_or, false, true, if◌then◌else◌};
 ghost use Rattle.pipe_latch.specs.DecodedBits as bits;
 ghost use Rattle.eval_mask.specs.Cases.{IsCase, IsMaskBelow};
 ghost use Rattle.eval_mask.specs.LatchMasks.{HasBits, IsDecodedMasked};
+ghost use Rattle.eval_mask.specs.OtherDoings.{IsFacts, first_bit};
 ghost use Rattle.eval_mask.specs.Unread.{DoesTheSame};
 
-use crate::cases::{Case, is_doing_alike, is_masked};
+use crate::cases::{Case, is_masked};
 use crate::completing::doing_of;
+use crate::inputs::{Facts, Input, facts_of, first_bit, input_bit, number_bit};
+use crate::needed::is_doing_masked;
 use crate::unread::{is_a_unread, is_b_unread, is_immediate_unread};
 use bit_field::Struck;
 use need_pass::NeedTable;
@@ -24,11 +27,13 @@ fn decoded_bit(
     arch: &Arch<'_>,
     needs: &NeedTable,
     case: &Case,
+    facts: Facts,
     k: u32,
 ) -> bool
     requires within { case.now.first_after ≤ needs.now.count }
     requires case { IsCase needs.now arch.now w.now m.now d.now case.now }
     requires on_path { case.now.on_path ≡ true }
+    requires facts { IsFacts needs.now arch.now d.now case.now facts }
     requires from { 31 ≤ k }
     requires to { k < 148 }
     ensures { IsTrue result ↔ IsDecodedMasked needs.now arch.now (record { w = w.now; m = m.now; d = d.now }) case.now.oldest.value case.now.npc case.now.issued k }
@@ -48,7 +53,65 @@ fn decoded_bit(
         case.issued,
         arch.image(),
     );
-    is_doing_alike(arch, needs, case, &doing)
+    is_doing_masked(arch, needs, case, facts.needed, &doing)
+}
+
+/// Whether ID/EX is completed and reads no cycle counter.
+fn is_read(case: &Case) -> bool
+    ensures reached { IsTrue result → case.now.reached ≡ true }
+    ensures unread { IsTrue result → case.now.reads_clock ≡ false }
+{
+    case.reached && !case.reads_clock
+}
+
+/// Whether bit `k` of ID/EX, one of its code or its registers, is masked.
+fn front_bit(
+    w: &MemWb,
+    m: &ExMem,
+    d: &IdEx,
+    arch: &Arch<'_>,
+    needs: &NeedTable,
+    case: &Case,
+    facts: Facts,
+    k: u32,
+) -> bool
+    requires within { case.now.first_after ≤ needs.now.count }
+    requires case { IsCase needs.now arch.now w.now m.now d.now case.now }
+    requires on_path { case.now.on_path ≡ true }
+    requires facts { IsFacts needs.now arch.now d.now case.now facts }
+    requires from { 31 ≤ k }
+    requires to { k < 52 }
+    ensures { IsTrue result ↔ IsDecodedMasked needs.now arch.now (record { w = w.now; m = m.now; d = d.now }) case.now.oldest.value case.now.npc case.now.issued k }
+{
+    if 42 <= k && is_read(case) {
+        return number_bit(w, m, d, arch, needs, case, facts, k);
+    }
+    decoded_bit(w, m, d, arch, needs, case, facts, k)
+}
+
+/// Whether bit `k` of one of ID/EX's inputs is masked.
+fn field_bit(
+    w: &MemWb,
+    m: &ExMem,
+    d: &IdEx,
+    arch: &Arch<'_>,
+    needs: &NeedTable,
+    case: &Case,
+    facts: Facts,
+    input: Input,
+    k: u32,
+) -> bool
+    requires within { case.now.first_after ≤ needs.now.count }
+    requires case { IsCase needs.now arch.now w.now m.now d.now case.now }
+    requires on_path { case.now.on_path ≡ true }
+    requires facts { IsFacts needs.now arch.now d.now case.now facts }
+    requires bit { k < 32 }
+    ensures { IsTrue result ↔ IsDecodedMasked needs.now arch.now (record { w = w.now; m = m.now; d = d.now }) case.now.oldest.value case.now.npc case.now.issued (first_bit input + k) }
+{
+    if is_read(case) {
+        return input_bit(w, m, d, arch, needs, case, facts, input, k);
+    }
+    decoded_bit(w, m, d, arch, needs, case, facts, first_bit(input) + k)
 }
 
 /// The masked bits of ID/EX below 52, those of its code and its registers.
@@ -59,15 +122,17 @@ fn front_bits(
     arch: &Arch<'_>,
     needs: &NeedTable,
     case: &Case,
+    facts: Facts,
 ) -> u128
     requires within { case.now.first_after ≤ needs.now.count }
     requires case { IsCase needs.now arch.now w.now m.now d.now case.now }
     requires on_path { case.now.on_path ≡ true }
+    requires facts { IsFacts needs.now arch.now d.now case.now facts }
     ensures { IsMaskBelow 52 (IsDecodedMasked needs.now arch.now (record { w = w.now; m = m.now; d = d.now }) case.now.oldest.value case.now.npc case.now.issued) result }
 {
     let mut mask: u128 = 0;
     for k in 31..52u32 {
-        if decoded_bit(w, m, d, arch, needs, case, k) {
+        if front_bit(w, m, d, arch, needs, case, facts, k) {
             mask |= 1 << k;
         }
     }
@@ -81,7 +146,7 @@ pub fn whole_field(reads_clock: bool) -> u32
     if reads_clock { 0 } else { u32::MAX }
 }
 
-/// The masked bits of a field of 32 bits from bit `from` of ID/EX on. One that isn't read is masked whole.
+/// The masked bits of one of ID/EX's inputs. One that isn't read is masked whole.
 #[tactic(auto, using(crate::proofs::UnreadMasks::unread_field))]
 fn field_bits(
     w: &MemWb,
@@ -90,23 +155,23 @@ fn field_bits(
     arch: &Arch<'_>,
     needs: &NeedTable,
     case: &Case,
-    from: u32,
+    facts: Facts,
+    input: Input,
     is_unread: bool,
 ) -> u32
     requires within { case.now.first_after ≤ needs.now.count }
     requires case { IsCase needs.now arch.now w.now m.now d.now case.now }
     requires on_path { case.now.on_path ≡ true }
-    requires above { 31 ≤ from }
-    requires below { from + 32 ≤ 148 }
-    requires unread { IsTrue is_unread → (i : ℕ) → i < 32 → DoesTheSame w.now case.now.own.below.write d.now (bits.flipped d.now (from + i)) }
-    ensures { IsMaskBelow 32 (λ i. IsDecodedMasked needs.now arch.now (record { w = w.now; m = m.now; d = d.now }) case.now.oldest.value case.now.npc case.now.issued (from + i)) result }
+    requires facts { IsFacts needs.now arch.now d.now case.now facts }
+    requires unread { IsTrue is_unread → (i : ℕ) → i < 32 → DoesTheSame w.now case.now.own.below.write d.now (bits.flipped d.now (first_bit input + i)) }
+    ensures { IsMaskBelow 32 (λ i. IsDecodedMasked needs.now arch.now (record { w = w.now; m = m.now; d = d.now }) case.now.oldest.value case.now.npc case.now.issued (first_bit input + i)) result }
 {
     if is_unread {
         return whole_field(case.reads_clock);
     }
     let mut mask: u32 = 0;
     for k in 0..32u32 {
-        if decoded_bit(w, m, d, arch, needs, case, from + k) {
+        if field_bit(w, m, d, arch, needs, case, facts, input, k) {
             mask |= 1 << k;
         }
     }
@@ -114,25 +179,43 @@ fn field_bits(
 }
 
 /// The masked bits of the first operand.
-fn a_bits(w: &MemWb, m: &ExMem, d: &IdEx, arch: &Arch<'_>, needs: &NeedTable, case: &Case) -> u32
+fn a_bits(
+    w: &MemWb,
+    m: &ExMem,
+    d: &IdEx,
+    arch: &Arch<'_>,
+    needs: &NeedTable,
+    case: &Case,
+    facts: Facts,
+) -> u32
     requires within { case.now.first_after ≤ needs.now.count }
     requires case { IsCase needs.now arch.now w.now m.now d.now case.now }
     requires on_path { case.now.on_path ≡ true }
+    requires facts { IsFacts needs.now arch.now d.now case.now facts }
     ensures { IsMaskBelow 32 (λ i. IsDecodedMasked needs.now arch.now (record { w = w.now; m = m.now; d = d.now }) case.now.oldest.value case.now.npc case.now.issued (52 + i)) result }
 {
     let is_unread = is_a_unread(w, d, &case.own.below.write);
-    field_bits(w, m, d, arch, needs, case, 52, is_unread)
+    field_bits(w, m, d, arch, needs, case, facts, Input::A, is_unread)
 }
 
 /// Those of the second.
-fn b_bits(w: &MemWb, m: &ExMem, d: &IdEx, arch: &Arch<'_>, needs: &NeedTable, case: &Case) -> u32
+fn b_bits(
+    w: &MemWb,
+    m: &ExMem,
+    d: &IdEx,
+    arch: &Arch<'_>,
+    needs: &NeedTable,
+    case: &Case,
+    facts: Facts,
+) -> u32
     requires within { case.now.first_after ≤ needs.now.count }
     requires case { IsCase needs.now arch.now w.now m.now d.now case.now }
     requires on_path { case.now.on_path ≡ true }
+    requires facts { IsFacts needs.now arch.now d.now case.now facts }
     ensures { IsMaskBelow 32 (λ i. IsDecodedMasked needs.now arch.now (record { w = w.now; m = m.now; d = d.now }) case.now.oldest.value case.now.npc case.now.issued (84 + i)) result }
 {
     let is_unread = is_b_unread(w, d, &case.own.below.write);
-    field_bits(w, m, d, arch, needs, case, 84, is_unread)
+    field_bits(w, m, d, arch, needs, case, facts, Input::B, is_unread)
 }
 
 /// Those of the immediate.
@@ -143,14 +226,26 @@ fn immediate_bits(
     arch: &Arch<'_>,
     needs: &NeedTable,
     case: &Case,
+    facts: Facts,
 ) -> u32
     requires within { case.now.first_after ≤ needs.now.count }
     requires case { IsCase needs.now arch.now w.now m.now d.now case.now }
     requires on_path { case.now.on_path ≡ true }
+    requires facts { IsFacts needs.now arch.now d.now case.now facts }
     ensures { IsMaskBelow 32 (λ i. IsDecodedMasked needs.now arch.now (record { w = w.now; m = m.now; d = d.now }) case.now.oldest.value case.now.npc case.now.issued (116 + i)) result }
 {
     let is_unread = is_immediate_unread(d);
-    field_bits(w, m, d, arch, needs, case, 116, is_unread)
+    field_bits(
+        w,
+        m,
+        d,
+        arch,
+        needs,
+        case,
+        facts,
+        Input::Immediate,
+        is_unread,
+    )
 }
 
 /// A row of bits with a field's put in from bit `from` on, as far as they fit.
@@ -178,10 +273,11 @@ pub fn decoded_bits(
     if !case.on_path {
         return (0, 0);
     }
-    let front = front_bits(w, m, d, arch, needs, case);
-    let a = a_bits(w, m, d, arch, needs, case);
-    let b = b_bits(w, m, d, arch, needs, case);
-    let immediate = immediate_bits(w, m, d, arch, needs, case);
+    let facts = facts_of(arch, needs, case, d);
+    let front = front_bits(w, m, d, arch, needs, case, facts);
+    let a = a_bits(w, m, d, arch, needs, case, facts);
+    let b = b_bits(w, m, d, arch, needs, case, facts);
+    let immediate = immediate_bits(w, m, d, arch, needs, case, facts);
     let row = with_field(with_field(front, a, 52), b, 84);
     (with_field(row, immediate, 116), immediate >> 12)
 }

@@ -15,9 +15,13 @@ mod cases;
 mod compare;
 mod completing;
 mod decoded;
+mod inputs;
 mod latches;
 mod stores;
+mod needed;
+mod quick;
 mod unread;
+mod values;
 mod words;
 mod written;
 

@@ -21,8 +21,8 @@ returns-then-is_clocked c =
     (flip_keeps c.args.d.now k c.requires.from c.requires.to)
     (rw (sym c.flip.ensures) (rw (sym c.instruction.ensures) (sym c.is_clocked.ensures ∙ c.if-is_clocked.true))))
 
-pub is_doing_alike-requires-clause-own : goal.is_doing_alike-requires-clause-own
-is_doing_alike-requires-clause-own c =
+pub is_doing_masked-requires-clause-own : goal.is_doing_masked-requires-clause-own
+is_doing_masked-requires-clause-own c =
     own_left c.args.needs.now c.args.arch.now c.args.w.now c.args.m.now c.args.d.now c.args.case.now c.requires.case c.if-not-case.false
 
 pub returns : goal.returns
@@ -37,9 +37,9 @@ returns c =
     let doing =
     rw c.image.ensures at
     (c.doing_of-doing.ensures m (state_of arch).memory (rw c.image.ensures (own_write needs arch w m d case c.requires.case))) in
-    decoded_exactly needs arch w m d case k c.is_doing_alike.result c.requires.case c.requires.on_path
+    decoded_exactly needs arch w m d case k c.is_doing_masked.result c.requires.case c.requires.on_path
     (decoded_inside k c.requires.from c.requires.to)
     (rw c.flip.ensures at
-    (doing_exactly needs arch w m d c.flip.new.self case c.is_doing_alike.result c.requires.case c.if-not-case.false
+    (doing_exactly needs arch w m d c.flip.new.self case c.is_doing_masked.result c.requires.case c.if-not-case.false
     (rw c.flip.ensures (flip_keeps d k c.requires.from c.requires.to))
-    (rw (sym c.instruction.ensures) (sym c.is_clocked.ensures ∙ c.if-is_clocked.false)) (rw doing at c.is_doing_alike.ensures)))
+    (rw (sym c.instruction.ensures) (sym c.is_clocked.ensures ∙ c.if-is_clocked.false)) (rw doing at c.is_doing_masked.ensures)))

@@ -1,0 +1,8 @@
+use Rattle.bit_field.specs.Layouts.{flip}
+use Rattle.rv_table.specs.Arithmetic.{alu}
+use Rattle.eval_mask.specs.Cases.{IsMaskBelow}
+use Rattle.eval_mask.specs.Compared.{SameWhere}
+use Rattle.eval_mask.proofs.values.second_bits.Given as goal
+
+abbrev pub invariant-loop-k : goal.invariant-loop-k
+invariant-loop-k l = IsMaskBelow l.k (λ i. SameWhere 32 l.mask (alu l.kind l.a (flip l.b i)) l.own) l.bits

@@ -1,0 +1,32 @@
+-- What branches, loads and stores in ID/EX do, without the operation.
+use Rattle.std.specs.Prelude.{ℕ, ◌/◌, ◌*◌, ◌&&◌, not, if◌then◌else◌}
+use Rattle.elf_load.specs.Image.{LoadedImage, executable, word_in_ram}
+use Rattle.rv_table.specs.Actions.{holds, is_aligned, judged, load_asked, next_word, store_asked}
+use Rattle.rv_table.specs.Arithmetic.{sum32}
+use Rattle.rv_table.specs.declared.action.Action.{Action}
+use Rattle.rv_table.specs.declared.action.Action.TheVariants.{Traps, Writes}
+use Rattle.rv_table.specs.declared.operation.BranchKind.{BranchKind}
+use Rattle.rv_table.specs.declared.operation.LoadKind.{LoadKind}
+use Rattle.rv_table.specs.declared.operation.StoreKind.{StoreKind}
+use Rattle.rv_table.specs.declared.trap.TheConstants.{MISALIGNED_TARGET}
+use Rattle.pipe_latch.specs.Latches.{DecodedLatch}
+use Rattle.eval_mask.specs.declared.completing.Doing.{Doing}
+
+-- an action as an image's memory judges it
+abbrev pub judged_in : LoadedImage → Action → Action
+judged_in image done = judged (word_in_ram image) (executable image) done
+
+-- a branch to a target that is no multiple of 4 traps
+abbrev pub branch_doing : DecodedLatch → BranchKind → ℕ → ℕ → Doing
+branch_doing d kind a b =
+    let target = if holds kind a b then sum32 (4 * d.pc) d.imm else sum32 (4 * d.pc) 4 in
+    record {
+      action = if holds kind a b && not (is_aligned 4 target) then Traps MISALIGNED_TARGET else Writes 0 0;
+      next = if holds kind a b && is_aligned 4 target then target / 4 else next_word d.pc;
+    }
+
+abbrev pub load_doing : LoadedImage → DecodedLatch → LoadKind → ℕ → Doing
+load_doing image d kind a = record { action = judged_in image (load_asked kind d.rd (sum32 a d.imm)); next = next_word d.pc }
+
+abbrev pub store_doing : LoadedImage → DecodedLatch → StoreKind → ℕ → ℕ → Doing
+store_doing image d kind a held = record { action = judged_in image (store_asked kind (sum32 a d.imm) held); next = next_word d.pc }
