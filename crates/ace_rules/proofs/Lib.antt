@@ -54,3 +54,7 @@ mod FreeSlots
 mod FetchedSlots
 mod FetchedMarks
 mod PendingMarks
+pub mod Pairs
+mod ByteBits
+mod ByteStays
+mod ByteRows

@@ -25,7 +25,7 @@ use Rattle.ace_rules.proofs.LatchMarks.{of}
 use Rattle.ace_rules.proofs.MarkedBits.{when-set}
 use Rattle.ace_rules.proofs.PendingClass.{pending-class}
 
-all-set : (j : ℕ) → j < 8 → is_set BYTE_MASK j ≡ true
+pub all-set : (j : ℕ) → j < 8 → is_set BYTE_MASK j ≡ true
 all-set j l = let e : is_set (2 ^ 8 - 1) j ≡ true = (let h = bit_at_ones 8 j l in grind (arith, nat_tests)) in e
 
 and-true : (b : Bool) → (b && true) ≡ b

@@ -8,7 +8,7 @@ ghost use Rattle.store_buf.specs.declared.pending.TheConstants.{PENDING_BITS};
 ghost use Rattle.ace_law.specs.Moments.{Moment};
 ghost use Rattle.ace_rules.specs.Asked as asked;
 ghost use Rattle.ace_rules.specs.Notes.{IsKnown, IsSomeMoment};
-ghost use Rattle.ace_rules.specs.RuleMasks.{first_of};
+ghost use Rattle.ace_rules.specs.RuleMasks.{first_of, is_set};
 ghost use Rattle.ace_rules.specs.Tallies.{HasClass, IsAdded};
 
 use crate::later::retired;
@@ -22,6 +22,19 @@ use store_buf::SLOTS;
 
 /// All bits of a byte.
 pub(crate) const BYTE_MASK: u128 = 0xff;
+
+/// The dead bits of the byte at a byte address: all where a store from slot `first` on writes it, else those that nothing needs.
+pub(crate) fn dead_bits(note: &Note, needs: &NeedTable, first: u32, byte: u32) -> u128
+    requires instruction { asked.retired_by note.now ≤ needs.now.count }
+    requires slot { first ≤ SLOTS }
+    ensures { (j : ℕ) → j < 8 → is_set result j ≡ asked.is_dead needs.now note.now first byte j }
+{
+    if is_pending_from(&note.stores, first, byte) {
+        BYTE_MASK
+    } else {
+        without(BYTE_MASK, u128::from(needs.byte_need(byte, retired(note))))
+    }
+}
 
 /// The bits of a byte of the value in a slot of which each rule holds: all where the store doesn't write the byte, and those that a
 /// store behind it writes or nothing needs.
