@@ -13,7 +13,6 @@ use Rattle.ace_rules.specs.Asked.{is_dead, retired_by, written_from}
 use Rattle.ace_rules.specs.LineData.{is_dead_in, is_dead_line, is_unread}
 use Rattle.ace_rules.specs.RuleMasks.{first_of, is_set}
 use Rattle.ace_rules.specs.declared.note.Note.{Note}
-use Rattle.ace_rules.specs.declared.tally.RuleMask.{RuleMask}
 use Rattle.ace_rules.specs.declared.tally_pending.TheConstants.{BYTE_MASK}
 use Rattle.ace_rules.proofs.FirstMasks.{is_rest}
 use Rattle.ace_rules.proofs.LatchMarks.{of}

@@ -11,7 +11,7 @@
 // - pending: the classes of the bits of the store buffer;
 // - lines, line_data: the classes of the bits of line slots; line_bytes: those of the data byte by byte, and how long they stay;
 // - tally: how many bits have each class, by masks of the rules; tally_latches, tally_decoded, tally_fetched, tally_registers,
-//   tally_pending: the masks of each structure; tally_cycle: all bits of a structure in a cycle; tally_bytes: the data bits of a
+//   tally_pending, tally_target: the masks of each structure; tally_cycle: all bits of a structure in a cycle; tally_bytes: the data bits of a
 //   byte in a stretch of cycles.
 #![tactic(auto)]
 
@@ -40,6 +40,7 @@ mod tally_fetched;
 mod tally_latches;
 mod tally_pending;
 mod tally_registers;
+mod tally_target;
 mod timing;
 mod until;
 mod walk;

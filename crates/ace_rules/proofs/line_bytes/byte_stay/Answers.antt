@@ -1,4 +1,4 @@
-use Rattle.std.proofs.Common.{◌*◌, ◌+◌, ◌%◌, arith, refl, subst, sym, ◌∙◌}
+use Rattle.std.proofs.Common.{arith, refl, subst, sym, ◌∙◌}
 use Rattle.event_log.specs.declared.next.Next.{Next}
 use Rattle.ace_rules.specs.LineData.{IsNextBelow}
 use Rattle.ace_rules.proofs.ByteStays.{byte-line, byte-low, byte-next, clean-is, dirty-is, vacant-is}

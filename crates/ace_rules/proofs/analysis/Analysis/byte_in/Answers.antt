@@ -1,4 +1,4 @@
-use Rattle.std.proofs.Common.{◌≤◌, ◌<◌, ◌+◌, ◌*◌, List, [], ◌∷◌, ap, arith, refl, sym, subst, ◌∙◌}
+use Rattle.std.proofs.Common.{◌≤◌, ◌<◌, ◌+◌, ◌*◌, List, [], ◌∷◌, arith, refl, sym, subst}
 use Rattle.bit_field.specs.Shapes.{slots as slot_count}
 use Rattle.bit_field.specs.declared.places.Structure.TheVariants.{CData}
 use Rattle.ace_rules.specs.Analyses.{IsAnalysis}
