@@ -3,6 +3,7 @@ ghost use Rattle.std.specs.Prelude.{◌≡◌, length};
 ghost use Rattle.ace_class.specs.Counts.{structures};
 ghost use Rattle.ace_count.specs.RunCounts.{AreCounts, IsRowOf};
 
+use crate::bytes::tally_by_bytes;
 use crate::cycles::tally_by_cycles;
 use crate::intervals::tally_by_intervals;
 use ace_class::{CLASSES, Counts, STRUCTURES, order_law};
@@ -20,6 +21,7 @@ fn tally(a: &Analysis<'_>, structure: Structure) -> [u64; CLASSES]
         | Structure::MemWb
         | Structure::Rf
         | Structure::Sb => tally_by_cycles(a, structure),
+        Structure::CData => tally_by_bytes(a),
         _ => tally_by_intervals(a, structure),
     }
 }

@@ -23,7 +23,7 @@ use Rattle.ace_rules.proofs.Sums.{sum_below-add, sum_below-same}
 abbrev pub left_count : ℕ → ℕ → List RuleMask → ℕ → ℕ
 left_count bits left masks n = count_below bits (λ k. is_set left k && class_number (first_of masks k) == n)
 
-sum_below-mul : (n : ℕ) (f : ℕ → ℕ) (c : ℕ) → sum_below n (λ k. f k * c) ≡ sum_below n f * c
+pub sum_below-mul : (n : ℕ) (f : ℕ → ℕ) (c : ℕ) → sum_below n (λ k. f k * c) ≡ sum_below n f * c
 unfolding sum_below
 sum_below-mul zero f c = omega arith
 sum_below-mul (suc n) f c = let h = sum_below-mul n f c in omega (arith, h)

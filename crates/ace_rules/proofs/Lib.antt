@@ -50,7 +50,11 @@ mod LatchMarks
 mod NextBits
 mod DecodedMarks
 mod CycleTallies
-mod FreeSlots
 mod FetchedSlots
 mod FetchedMarks
 mod PendingMarks
+mod TargetMarks
+pub mod Pairs
+mod ByteBits
+mod ByteStays
+mod ByteRows

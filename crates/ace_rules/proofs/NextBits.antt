@@ -1,12 +1,10 @@
--- The bits of an address that would make the first entry off path the next instruction.
+-- Bits that pass a test of their place, tried one by one.
 use Rattle.std.proofs.Common.{◌≡◌, ◌≢◌, ℕ, ◌+◌, ◌-◌, ◌^◌, ◌==◌, ◌&&◌, ◌||◌, Bool, true, false, sym, ◌∙◌, arith, inl, inr}
 use Rattle.std.specs.Prelude.{bit_or, nat_le, nat_lt, if◌then◌else◌}
 use Rattle.std.proofs.lemmas.Bool.{cases_eq}
 use Rattle.std.proofs.lemmas.Bool.Decides.{nat_tests}
 use Rattle.std.proofs.lemmas.Nat.Bits.{bit_at_or, bit_at-lt, bit_at-zero, bit_at-pow_same, bit_at-pow_other}
-use Rattle.ace_rules.specs.PipelineTests.{becomes_next}
-use Rattle.ace_rules.specs.RuleMasks.{is_set}
-use Rattle.ace_rules.specs.declared.note.Note.{Note}
+use Rattle.ace_rules.specs.RuleMasks.{is_place_of, is_set}
 use Rattle.ace_rules.proofs.MarkedBits.{when-set}
 
 pub set-or : (a b k : ℕ) → is_set (bit_or a b) k ≡ (is_set a k || is_set b k)
@@ -25,15 +23,12 @@ set-pow i k = elim (cases_eq k i) [
   | inr d ↦ let o = bit_at-pow_other i k d in grind (arith, nat_tests)
 ]
 
--- the places below n have been tried
-abbrev pub is_tried : Note → ℕ → ℕ → ℕ → Bool
-is_tried note first n k = nat_le first k && (nat_lt k (first + n) && becomes_next note (k - first))
+-- no place has been tried
+none : (test : ℕ → Bool) (first k : ℕ) → is_place_of test first 0 k ≡ false
+none test first k = grind (arith, nat_tests)
 
-none : (note : Note) (first k : ℕ) → is_tried note first 0 k ≡ false
-none note first k = grind (arith, nat_tests)
-
-pub tried-none : (note : Note) (first k : ℕ) → is_set 0 k ≡ is_tried note first 0 k
-tried-none note first k = set-zero k ∙ sym (none note first k)
+pub tried-none : (test : ℕ → Bool) (first k : ℕ) → is_set 0 k ≡ is_place_of test first 0 k
+tried-none test first k = set-zero k ∙ sym (none test first k)
 
 on : (x : ℕ → Bool) (first n k : ℕ) → (nat_le first k && (nat_lt k (first + n) && x (k - first))) || (x n && k == first + n)
     ≡ nat_le first k && (nat_lt k (first + (n + 1)) && x (k - first))
@@ -55,8 +50,7 @@ on x first n k = elim (cases_eq k (first + n)) [
     other a false first n k d = grind (arith, nat_tests)
 
 -- one place more
-pub tried-on : (note : Note) (first n mask bit more : ℕ) → bit ≡ 2 ^ (first + n) → more ≡ (if becomes_next note n then bit else 0)
-    → ((k : ℕ) → is_set mask k ≡ is_tried note first n k) → (k : ℕ) → is_set (bit_or mask more) k ≡ is_tried note first (n + 1) k
-tried-on note first n mask bit more is is_more so_far k =
-    rw (set-or mask more k, so_far k, is_more, is, when-set (becomes_next note n) (2 ^ (first + n)) k, set-pow (first + n) k)
-    (on (becomes_next note) first n k)
+pub tried-on : (test : ℕ → Bool) (first n mask bit more : ℕ) → bit ≡ 2 ^ (first + n) → more ≡ (if test n then bit else 0)
+    → ((k : ℕ) → is_set mask k ≡ is_place_of test first n k) → (k : ℕ) → is_set (bit_or mask more) k ≡ is_place_of test first (n + 1) k
+tried-on test first n mask bit more is is_more so_far k =
+    rw (set-or mask more k, so_far k, is_more, is, when-set (test n) (2 ^ (first + n)) k, set-pow (first + n) k) (on test first n k)

@@ -123,15 +123,15 @@ added-next Has one from old row so_far class here i is within =
 pub added-most : (Has : ℕ → Class → Type 0) (end : ℕ) (old row : List ℕ) → IsAdded Has end old row → (n : ℕ) → slice_index row n ≤ slice_index old n + end
 added-most Has end old row h n = let e = h.counts n in let l = count-le end (λ k. class_number (h.classes k) == n) in omega arith
 
--- the classes of m numbers, and those of the numbers behind them
-joined : ℕ → (ℕ → Class) → (ℕ → Class) → ℕ → Class
+-- the values of m numbers, and those of the numbers behind them
+pub joined : {A : Type 0} → ℕ → (ℕ → A) → (ℕ → A) → ℕ → A
 joined m f g k = cond (nat_lt k m) (f k) (g (k - m))
 
-joined-front : (m : ℕ) (f g : ℕ → Class) (k : ℕ) → k < m → joined m f g k ≡ f k
+pub joined-front : {A : Type 0} (m : ℕ) (f g : ℕ → A) (k : ℕ) → k < m → joined m f g k ≡ f k
 unfolding joined
 joined-front m f g k l = grind (arith, nat_tests)
 
-joined-back : (m : ℕ) (f g : ℕ → Class) (k : ℕ) → joined m f g (m + k) ≡ g k
+pub joined-back : {A : Type 0} (m : ℕ) (f g : ℕ → A) (k : ℕ) → joined m f g (m + k) ≡ g k
 unfolding joined
 joined-back m f g k =
     let e : m + k - m ≡ k = omega arith in
@@ -277,6 +277,14 @@ tally-room_for_bits Has bits cycle row h few short n =
 pub tally-room : (Has : ℕ → ℕ → Class → Type 0) (bit cycles : ℕ) (row : List ℕ) → IsTally Has bit cycles row → bit < 2 ^ 32 → cycles ≤ 1000000
     → (n : ℕ) → slice_index row n + cycles < 2 ^ 64
 tally-room Has bit cycles row h few short n =
+    let m = tally-most Has bit cycles row h n in
+    let p = mul-le bit cycles (2 ^ 32) 1000000 (omega arith) short in
+    omega (arith, m, p)
+
+-- with room for eight bits more
+pub tally-room_for_byte : (Has : ℕ → ℕ → Class → Type 0) (bit cycles : ℕ) (row : List ℕ) → IsTally Has bit cycles row → bit < 2 ^ 32 → cycles ≤ 1000000
+    → (n : ℕ) → slice_index row n + 8 * cycles < 2 ^ 64
+tally-room_for_byte Has bit cycles row h few short n =
     let m = tally-most Has bit cycles row h n in
     let p = mul-le bit cycles (2 ^ 32) 1000000 (omega arith) short in
     omega (arith, m, p)

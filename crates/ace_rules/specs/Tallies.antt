@@ -25,3 +25,10 @@ pub record IsTally (Has : ℕ → ℕ → Class → Type 0) (bits cycles : ℕ) 
   pub are : (k t : ℕ) → k < bits → t < cycles → Has k t (classes k t)
   pub full : length row ≡ CLASSES
   pub counts : (n : ℕ) → slice_index row n ≡ count_pairs bits cycles (λ k t. class_number (classes k t) == n)
+
+-- Each pair of a bit and a cycle has a class, and a row has grown by how many have each.
+pub record ArePairsAdded (Has : ℕ → ℕ → Class → Type 0) (bits cycles : ℕ) (before row : List ℕ) : Type 0 where
+  pub classes : ℕ → ℕ → Class
+  pub are : (k t : ℕ) → k < bits → t < cycles → Has k t (classes k t)
+  pub full : length row ≡ length before
+  pub counts : (n : ℕ) → slice_index row n ≡ slice_index before n + count_pairs bits cycles (λ k t. class_number (classes k t) == n)

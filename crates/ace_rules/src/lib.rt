@@ -9,9 +9,10 @@
 // - classes: the class of any bit; until, stays: how long a bit keeps its class;
 // - later: what instructions that haven't left the memory stage need and access; progress: how long they do;
 // - pending: the classes of the bits of the store buffer;
-// - lines, line_data: the classes of the bits of line slots;
+// - lines, line_data: the classes of the bits of line slots; line_bytes: those of the data byte by byte, and how long they stay;
 // - tally: how many bits have each class, by masks of the rules; tally_latches, tally_decoded, tally_fetched, tally_registers,
-//   tally_pending: the masks of each structure; tally_cycle: all bits of a structure in a cycle.
+//   tally_pending, tally_target: the masks of each structure; tally_cycle: all bits of a structure in a cycle; tally_bytes: the data bits of a
+//   byte in a stretch of cycles.
 #![tactic(auto)]
 
 mod analysis;
@@ -20,6 +21,7 @@ mod fetched;
 mod first_rule;
 mod latches;
 mod later;
+mod line_bytes;
 mod line_data;
 mod lines;
 mod next;
@@ -31,12 +33,14 @@ mod registers;
 mod situation;
 mod stays;
 mod tally;
+mod tally_bytes;
 mod tally_cycle;
 mod tally_decoded;
 mod tally_fetched;
 mod tally_latches;
 mod tally_pending;
 mod tally_registers;
+mod tally_target;
 mod timing;
 mod until;
 mod walk;

@@ -83,7 +83,7 @@ fn is_dead_value(note: &Note, needs: &NeedTable, slot: u32, field: PendingField,
 /// Whether it doesn't matter what the store in a slot makes of a byte: it is outside RAM, a store behind writes it, or no bit of
 /// it is needed.
 #[tactic(auto, unfolding(crate::specs::Asked::is_spared))]
-fn is_spared(note: &Note, needs: &NeedTable, image: &Image, slot: u32, byte: u32) -> bool
+pub(crate) fn is_spared(note: &Note, needs: &NeedTable, image: &Image, slot: u32, byte: u32) -> bool
     requires instruction { asked.retired_by note.now ≤ needs.now.count }
     requires slot { slot < SLOTS }
     ensures { result ≡ asked.is_spared image.now needs.now note.now slot byte }
@@ -125,7 +125,7 @@ fn is_harmless_at(
 
 /// The same of the four bytes of the word at a word address.
 #[tactic(auto, unfolding(crate::specs::Asked::is_harmless_in))]
-fn is_harmless_in(
+pub(crate) fn is_harmless_in(
     note: &Note,
     needs: &NeedTable,
     image: &Image,

@@ -1,11 +1,11 @@
 // How far a run gets: up to which cycle the instructions that haven't left the memory stage need and access the same.
-ghost use Rattle.std.specs.Prelude.{◌≡◌, ◌≤◌, ◌<◌, Some, length, slice_get};
+ghost use Rattle.std.specs.Prelude.{◌≡◌, ◌≤◌, ◌<◌, ℕ, Some, length, slice_get};
 ghost use Rattle.bit_field.specs.Shapes.{IsShape, slots as slot_count};
 ghost use Rattle.ace_rules.specs.Asked as asked;
 ghost use Rattle.ace_rules.specs.Stays.{AreInOrder, IsBeforePast, StaysAccessed, StaysDead, StaysLookedUp};
 ghost use Rattle.ace_rules.specs.declared.note.Note.{Note as CycleNote};
 
-use crate::later::{is_later, is_needed, is_pending_line, retired};
+use crate::later::{is_later, is_needed, is_pending_line, is_unneeded, retired};
 use crate::note::Note;
 use crate::pending::is_pending_from;
 use bit_field::Shape;
@@ -46,6 +46,19 @@ pub(crate) fn dead_until(notes: &[Note], note: &Note, needs: &NeedTable, byte: u
     ensures { StaysDead needs.now notes.now note.now byte bit result }
 {
     if is_pending_from(&note.stores, 0, byte) && is_needed(note, needs, byte, bit) {
+        0
+    } else {
+        past(notes, needs.byte_need_until(byte, retired(note)))
+    }
+}
+
+/// The same of all bits of the byte: not past this cycle, where one of them is needed and a store to the byte is pending.
+pub(crate) fn byte_dead_until(notes: &[Note], note: &Note, needs: &NeedTable, byte: u32) -> u32
+    requires order { AreInOrder notes.now }
+    requires instruction { asked.retired_by note.now ≤ needs.now.count }
+    ensures { (j : ℕ) → j < 8 → StaysDead needs.now notes.now note.now byte j result }
+{
+    if is_pending_from(&note.stores, 0, byte) && !is_unneeded(note, needs, byte) {
         0
     } else {
         past(notes, needs.byte_need_until(byte, retired(note)))

@@ -35,7 +35,7 @@ fn quiet_until(first_quiet: u32, cycle: u32) -> u32
 
 /// The cycle after that in which something next concerns a byte.
 #[tactic(auto, unfolding(crate::specs::Stays::after))]
-fn after(next: Next) -> u32
+pub(crate) fn after(next: Next) -> u32
     ensures { result ≡ stays.after next }
 {
     match next {
