@@ -12,3 +12,4 @@ pub mod Sums
 pub mod Tallies
 pub mod RuleMasks
 pub mod Stays
+pub mod AceGroups
