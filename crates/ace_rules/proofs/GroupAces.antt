@@ -1,5 +1,5 @@
 -- How many bits of a group are ACE, bit by bit, and all at once for a register.
-use Rattle.std.proofs.Common.{◌≡◌, ℕ, ◌+◌, ◌-◌, ◌*◌, ◌<◌, ◌≤◌, cond, nat_lt, Bool, true, false, inl, inr, refl, sym, ap, subst, arith}
+use Rattle.std.proofs.Common.{◌≡◌, ℕ, ◌+◌, ◌-◌, ◌*◌, ◌<◌, ◌≤◌, cond, nat_lt, Bool, inl, inr, refl, sym, ap, subst, arith}
 use Rattle.std.proofs.lemmas.Bool.{cases_lt, cases_order}
 use Rattle.std.proofs.lemmas.Bool.Decides.{nat_tests}
 use Rattle.bit_field.specs.Layouts.{number_of}
@@ -19,6 +19,7 @@ use Rattle.ace_rules.specs.Sums.{count_below, sum_below}
 use Rattle.ace_rules.specs.declared.note.Note.{Note}
 use Rattle.ace_rules.proofs.RegisterClasses.{register_class}
 use Rattle.ace_rules.proofs.Sums.{sum_below-same, sum_below-suc}
+use Rattle.ace_rules.proofs.Tallies.{number-le}
 
 -- the classes of the first n bits, and one of the next
 abbrev and_next : (ℕ → Class) → ℕ → Class → ℕ → Class
@@ -29,10 +30,6 @@ and_next-before classes n class k l = grind (arith, nat_tests)
 
 and_next-at : (classes : ℕ → Class) (n : ℕ) (class : Class) (k : ℕ) → n ≤ k → and_next classes n class k ≡ class
 and_next-at classes n class k l = grind (arith, nat_tests)
-
-number-le : (b : Bool) → number_of b ≤ 1
-number-le true = omega arith
-number-le false = omega arith
 
 pub one-most : (class : Class) (one : ℕ) → one ≡ number_of (is_ace class) → one ≤ 1
 one-most class one e = let most = number-le (is_ace class) in omega (arith, e, most)
