@@ -22,6 +22,8 @@ mod FirstRuleLaws
 mod NotedTests
 mod RegisterClasses
 mod RegisterMarks
+mod RegisterAces
+mod GroupAces
 mod TimingClasses
 mod LatchClasses
 mod NextEntries

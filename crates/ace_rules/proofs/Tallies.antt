@@ -22,7 +22,7 @@ use Rattle.ace_rules.proofs.Sums.{sum_below-suc, sum_below-same, sum_below-const
 abbrev pub HasOne : (ℕ → Class → Type 0) → Type 0
 HasOne Has = (k : ℕ) (c d : Class) → Has k c → Has k d → c ≡ d
 
-number-le : (b : Bool) → number_of b ≤ 1
+pub number-le : (b : Bool) → number_of b ≤ 1
 number-le true = omega arith
 number-le false = omega arith
 

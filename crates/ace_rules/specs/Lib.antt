@@ -13,3 +13,4 @@ pub mod Tallies
 pub mod RuleMasks
 pub mod Stays
 pub mod LineBytes
+pub mod AceGroups

@@ -13,8 +13,11 @@
 // - tally: how many bits have each class, by masks of the rules; tally_latches, tally_decoded, tally_fetched, tally_registers,
 //   tally_pending, tally_target: the masks of each structure; tally_cycle: all bits of a structure in a cycle; tally_bytes: the data bits of a
 //   byte in a stretch of cycles.
+//   tally_pending: the masks of each structure; tally_cycle: all bits of a structure in a cycle;
+// - ace_groups: how many bits of a register, or of a byte of the cache, are ACE.
 #![tactic(auto)]
 
+mod ace_groups;
 mod analysis;
 mod classes;
 mod fetched;
@@ -46,5 +49,6 @@ mod until;
 mod walk;
 mod words;
 
+pub use ace_groups::Aces;
 pub use analysis::Analysis;
 pub use note::Note;

@@ -10,7 +10,7 @@ impl Analysis<'_> {
     ghost use Rattle.ace_rules.specs.Stays.{HasAnotherClass, Stays};
 
     /// A cycle above `cycle`, at most the number of cycles, up to before which the class of the bit surely stays.
-    fn idle_until(&self, place: &Place, cycle: u32) -> u32
+    pub(crate) fn idle_until(&self, place: &Place, cycle: u32) -> u32
         requires place { IsPlaceIn self.now.r.shape place.now }
         requires cycle { cycle < self.now.r.cycles }
         ensures after { cycle < result }

@@ -12,7 +12,7 @@ use Rattle.due_parity.specs.declared.fate.Fate.{Fate}
 use Rattle.due_parity.specs.declared.fate.Fate.TheVariants.{Detected, Quiet}
 use Rattle.due_parity.proofs.Ranges.{count-same, sum-same}
 
-same_counts : (a b : DueCounts) → a.true_due ≡ b.true_due → a.false_due ≡ b.false_due → a.quiet ≡ b.quiet → a ≡ b
+pub same_counts : (a b : DueCounts) → a.true_due ≡ b.true_due → a.false_due ≡ b.false_due → a.quiet ≡ b.quiet → a ≡ b
 same_counts a b e f g =
     ap (λ n. record a { true_due = n }) e
     ∙ ap (λ n. record b { false_due = n; quiet = a.quiet }) f

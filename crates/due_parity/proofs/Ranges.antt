@@ -3,6 +3,7 @@ use Rattle.std.proofs.Common.{◌≡◌, ℕ, zero, suc, ◌+◌, ◌-◌, ◌*�
 use Rattle.std.specs.Prelude.{nat_lt, if◌then◌else◌}
 use Rattle.std.proofs.lemmas.Bool.Decides.{nat_tests}
 use Rattle.bit_field.specs.Layouts.{number_of}
+use Rattle.ace_rules.proofs.Tallies.{number-le}
 use Rattle.due_parity.specs.Due.{count_from, sum_from}
 
 pub sum-split : (m n total a b : ℕ) (f : ℕ → ℕ) → total ≡ m + n → b ≡ a + m → sum_from a total f ≡ sum_from a m f + sum_from b n f
@@ -95,6 +96,7 @@ pub sum-more : (n : ℕ) (f : ℕ → ℕ) → sum_from 0 (n + 1) f ≡ sum_from
 unfolding sum_from
 sum-more n f = let all = sum-split n 1 (n + 1) 0 n f refl (omega arith) in omega (arith, all)
 
-pub added-most : (b : Bool) (n added : ℕ) → added ≡ (if b then n else 0) → added ≤ n
-added-most true n added e = omega (arith, e)
-added-most false n added e = omega (arith, e)
+pub count-most : (n a : ℕ) (p : ℕ → Bool) → count_from a n p ≤ n
+unfolding sum_from
+count-most zero a p = omega arith
+count-most (suc n) a p = let rest = count-most n (a + 1) p in let one = number-le (p a) in omega (arith, rest, one)

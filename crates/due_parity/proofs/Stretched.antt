@@ -6,10 +6,11 @@ use Rattle.bit_field.specs.declared.places.Place.{Place}
 use Rattle.ace_class.specs.declared.class.Class.{Class}
 use Rattle.ace_class.specs.declared.class.Class.TheVariants.{Ace, UnAce}
 use Rattle.ace_law.specs.Classes.{IsClass}
+use Rattle.ace_rules.specs.AceGroups.{is_ace}
 use Rattle.ace_rules.specs.Notes.{Story, moment}
 use Rattle.due_parity.specs.Due.{count_from, is_false_due, is_quiet, is_true_due, sum_from}
 use Rattle.due_parity.specs.Fates.{fate}
-use Rattle.due_parity.specs.Stretches.{AreDetected, CountsCycles, HasAce, all_of, is_ace, no_pairs, plus}
+use Rattle.due_parity.specs.Stretches.{AreDetected, CountsCycles, HasAce, all_of, no_pairs, plus}
 use Rattle.due_parity.specs.declared.counting.DueCounts.{DueCounts}
 use Rattle.due_parity.specs.declared.fate.Fate.{Fate}
 use Rattle.due_parity.specs.declared.fate.Fate.TheVariants.{Detected, Quiet}

@@ -1,19 +1,20 @@
 // The pairs of a bit and a cycle by what becomes of a flip.
-ghost use Rattle.std.specs.Prelude.{◌≡◌, ◌+◌, ◌*◌, ◌<◌, ◌≤◌, ◌-◌, ◌^◌, if◌then◌else◌};
+ghost use Rattle.std.specs.Prelude.{◌≡◌, ◌+◌, ◌*◌, ◌<◌, ◌≤◌, ◌-◌, ◌^◌};
 ghost use Rattle.bit_field.specs.Shapes as shapes;
-ghost use Rattle.bit_field.specs.Shapes.{IsPlaceIn};
-ghost use Rattle.due_parity.specs.Due.{IsDue};
-ghost use Rattle.due_parity.specs.Fates.{touch_at};
-ghost use Rattle.due_parity.specs.Notes.{IsTable, noted_below};
+ghost use Rattle.bit_field.specs.Shapes.{IsPlaceIn, IsShape};
+ghost use Rattle.ace_rules.specs.AceGroups.{AreAces};
+ghost use Rattle.due_parity.specs.Due.{IsDue, place};
+ghost use Rattle.due_parity.specs.Notes.{IsTable, group_count, group_touch_at, noted_below};
 ghost use Rattle.due_parity.specs.Stretches as stretches;
-ghost use Rattle.due_parity.specs.Stretches.{AreDetected, CountsCycles, HasAce};
+ghost use Rattle.due_parity.specs.Stretches.{AreGroupDetected, CountsGroup, HasAcePairs};
 ghost use Rattle.due_parity.specs.Touches.{IsProtected};
 
 use crate::table::FateTable;
 use crate::watched::Watched;
-use ace_class::Class;
-use ace_rules::Analysis;
-use bit_field::{Place, Structure, bits_in};
+use ace_rules::{Aces, Analysis};
+use bit_field::{Place, Shape, Structure};
+use cyc_machine::REGISTERS;
+use event_log::slot_count;
 
 /// Of the pairs of a bit and a cycle, how many flips are detected and ACE, how many are detected and un-ACE, and how many are quiet.
 #[derive(Clone, Copy, Debug, PartialEq, Eq)]
@@ -45,75 +46,128 @@ fn plus(a: DueCounts, b: DueCounts) -> DueCounts
     }
 }
 
-/// The cycles that a bit adds where it has a class.
-fn ace_in(class: Class, cycles: u32) -> u32
-    ensures { result ≡ (if stretches.is_ace class then cycles else 0) }
+/// How many bits share a parity bit: those of a register, or those of a byte.
+fn width(s: Structure) -> u32
+    ensures { result ≡ stretches.width s }
 {
-    match class {
-        Class::Ace => cycles,
-        Class::UnAce(_) => 0,
+    match s {
+        Structure::Rf => 32,
+        _ => 8,
     }
 }
 
-/// In how many cycles from `from` up to before `until` a bit is ACE.
-fn ace_cycles(a: &Analysis<'_>, place: &Place, from: u32, until: u32) -> u32
-    requires place { IsPlaceIn a.now.r.shape place.now }
+/// How many groups of bits with a parity bit a structure has.
+fn group_count(s: Structure, shape: &Shape) -> u32
+    requires shape { IsShape shape.now }
+    requires protected { IsProtected s }
+    ensures { result ≡ group_count s shape.now }
+{
+    match s {
+        Structure::Rf => REGISTERS as u32,
+        _ => 16 * slot_count(shape),
+    }
+}
+
+/// The first bit of a group.
+fn first_bit(s: Structure, group: u32, shape: &Shape) -> Place
+    requires shape { IsShape shape.now }
+    requires protected { IsProtected s }
+    requires group { group < group_count s shape.now }
+    ensures bit { result ≡ place s (stretches.width s * group) }
+    ensures within { IsPlaceIn shape.now result }
+{
+    let _groups = group_count(s, shape);
+    Place {
+        structure: s,
+        bit: width(s) * group,
+    }
+}
+
+/// How many bits of a group are ACE in a cycle.
+fn aces_of(a: &Analysis<'_>, s: Structure, group: u32, cycle: u32) -> Aces
+    requires protected { IsProtected s }
+    requires group { group < group_count s a.now.r.shape }
+    requires cycle { cycle < a.now.r.cycles }
+    ensures aces { AreAces a.now s (stretches.width s * group) (stretches.width s) cycle result }
+    ensures after { cycle < result.until }
+{
+    match s {
+        Structure::Rf => a.register_aces(group, cycle),
+        _ => a.byte_aces(group, cycle),
+    }
+}
+
+/// How many pairs of a bit of a group and a cycle from `from` up to before `until` are ACE.
+fn ace_pairs(a: &Analysis<'_>, s: Structure, group: u32, from: u32, until: u32) -> u64
+    requires protected { IsProtected s }
+    requires group { group < group_count s a.now.r.shape }
     requires order { from ≤ until }
     requires within { until ≤ a.now.r.cycles }
-    ensures count { HasAce a.now place.now from until result }
-    ensures most { result ≤ until - from }
+    ensures count { HasAcePairs a.now s group from until result }
+    ensures most { result ≤ stretches.width s * (until - from) }
 {
-    let mut ace = 0;
+    let mut pairs = 0;
     let mut t = from;
     while t < until {
-        let next = a.same_until(place, t).min(until);
-        ace += ace_in(a.class_of(place, t), next - t);
+        let aces = aces_of(a, s, group, t);
+        let next = aces.until.min(until);
+        pairs += u64::from(aces.bits) * u64::from(next - t);
         t = next;
     }
-    ace
+    pairs
 }
 
-/// The counts of a bit in the cycles from `from` up to before `until`, where all flips in them are detected or none is.
-fn stretch(a: &Analysis<'_>, place: &Place, detected: bool, from: u32, until: u32) -> DueCounts
-    requires place { IsPlaceIn a.now.r.shape place.now }
+/// The counts of a group in the cycles from `from` up to before `until`, where all flips in them are detected or none is.
+fn stretch(
+    a: &Analysis<'_>,
+    s: Structure,
+    group: u32,
+    detected: bool,
+    from: u32,
+    until: u32,
+) -> DueCounts
+    requires protected { IsProtected s }
+    requires group { group < group_count s a.now.r.shape }
     requires order { from ≤ until }
     requires within { until ≤ a.now.r.cycles }
-    requires fates { AreDetected a.now place.now from until detected }
-    ensures { CountsCycles a.now place.now from until result }
+    requires fates { AreGroupDetected a.now s group from until detected }
+    ensures { CountsGroup a.now s group from until result }
 {
+    let all = u64::from(width(s)) * u64::from(until - from);
     if detected {
-        let ace = ace_cycles(a, place, from, until);
+        let ace = ace_pairs(a, s, group, from, until);
         DueCounts {
-            true_due: u64::from(ace),
-            false_due: u64::from(until - from - ace),
+            true_due: ace,
+            false_due: all - ace,
             quiet: 0,
         }
     } else {
         DueCounts {
             true_due: 0,
             false_due: 0,
-            quiet: u64::from(until - from),
+            quiet: all,
         }
     }
 }
 
-/// The counts of a bit in all cycles, by the touches of its group.
-fn bit_counts(a: &Analysis<'_>, row: &Watched, place: &Place) -> DueCounts
-    requires place { IsPlaceIn a.now.r.shape place.now }
-    requires row { row.now ≡ noted_below (touch_at a.now.r place.now) a.now.r.cycles }
+/// The counts of a group in all cycles, by the touches of the group.
+fn group_counts(a: &Analysis<'_>, row: &Watched, s: Structure, group: u32) -> DueCounts
+    requires protected { IsProtected s }
+    requires group { group < group_count s a.now.r.shape }
+    requires row { row.now ≡ noted_below (group_touch_at a.now.r.image a.now.r.shape s group) a.now.r.cycles }
     requires short { a.now.r.cycles ≤ 2 ^ 31 }
-    ensures { CountsCycles a.now place.now 0 a.now.r.cycles result }
+    ensures { CountsGroup a.now s group 0 a.now.r.cycles result }
 {
     let mut counts = no_pairs();
     let mut from = 0;
     for note in row.notes() {
         let until = note.cycle + 1;
-        counts = plus(counts, stretch(a, place, note.reads, from, until));
+        counts = plus(counts, stretch(a, s, group, note.reads, from, until));
         from = until;
     }
     plus(
         counts,
-        stretch(a, place, false, from, a.recorded().cycles()),
+        stretch(a, s, group, false, from, a.recorded().cycles()),
     )
 }
 
@@ -127,10 +181,11 @@ pub fn due(a: &Analysis<'_>, table: &FateTable, s: Structure) -> DueCounts
 {
     let recorded = a.recorded();
     recorded.is_record();
+    let shape = recorded.shape();
     let mut counts = no_pairs();
-    for bit in 0..bits_in(s, &recorded.shape()) {
-        let place = Place { structure: s, bit };
-        counts = plus(counts, bit_counts(a, table.row(&place), &place));
+    for group in 0..group_count(s, &shape) {
+        let row = table.row(&first_bit(s, group, &shape));
+        counts = plus(counts, group_counts(a, row, s, group));
     }
     counts
 }

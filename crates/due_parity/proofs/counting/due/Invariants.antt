@@ -1,5 +1,7 @@
+use Rattle.std.proofs.Common.{◌*◌}
 use Rattle.due_parity.specs.Due.{CountsBits}
+use Rattle.due_parity.specs.Stretches.{width}
 use Rattle.due_parity.proofs.counting.due.Given as goal
 
-abbrev pub invariant-loop-bit : goal.invariant-loop-bit
-invariant-loop-bit l = CountsBits l.a l.s l.bit l.counts
+abbrev pub invariant-loop-group : goal.invariant-loop-group
+invariant-loop-group l = CountsBits l.a l.s (width l.s * l.group) l.counts

@@ -1,5 +1,0 @@
-use Rattle.due_parity.proofs.Passed.{IsPassed}
-use Rattle.due_parity.proofs.counting.bit_counts.Given as goal
-
-abbrev pub invariant-loop-note : goal.invariant-loop-note
-invariant-loop-note l = IsPassed l.a l.place l.row l.note-index l.from l.counts
