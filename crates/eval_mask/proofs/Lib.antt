@@ -8,6 +8,8 @@ pub mod MaskLoops
 pub mod Masked
 pub mod Missed
 pub mod Moved
+pub mod Numbers
+pub mod OtherRegister
 pub mod OwnChange
 pub mod Puts
 pub mod QuickDoings
