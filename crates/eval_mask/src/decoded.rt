@@ -328,6 +328,9 @@ fn immediate_bits(
     ensures { IsMaskBelow 32 (λ i. IsDecodedMasked needs.now arch.now (record { w = w.now; m = m.now; d = d.now }) case.now.oldest.value case.now.npc case.now.issued (116 + i)) result }
 {
     let is_unread = is_immediate_unread(d);
+    if !is_unread && is_read(case) {
+        return read_immediate(w, m, d, arch, needs, case, facts);
+    }
     field_bits(
         w,
         m,
