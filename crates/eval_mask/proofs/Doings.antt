@@ -107,10 +107,10 @@ alike_same needs arch case doing own e f =
 need_outside : (needs : Needs) (r j : ℕ) → ((0 < r) × (r < 32) → ⊥) → need_at needs r j ≡ 0
 need_outside needs r j h = grind (arith, nat_tests)
 
-unwritten : (rd v : ℕ) (f : ℕ → ℕ) (r : ℕ) → (r ≡ rd → ⊥) → written (record { rd = rd; value = v }) f r ≡ f r
+pub unwritten : (rd v : ℕ) (f : ℕ → ℕ) (r : ℕ) → (r ≡ rd → ⊥) → written (record { rd = rd; value = v }) f r ≡ f r
 unwritten rd v f r ne = grind (arith, nat_tests)
 
-written_here : (rd v : ℕ) (f : ℕ → ℕ) → 0 < rd → written (record { rd = rd; value = v }) f rd ≡ v
+pub written_here : (rd v : ℕ) (f : ℕ → ℕ) → 0 < rd → written (record { rd = rd; value = v }) f rd ≡ v
 written_here rd v f h = grind (arith, nat_tests)
 
 bit_here : (needs : Needs) (j rd x y : ℕ) (g : ℕ → ℕ) (k : ℕ) → SameWhere 32 (need_at needs rd j) x y → 0 < rd → rd < 32 → k < 32

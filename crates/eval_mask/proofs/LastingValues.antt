@@ -16,6 +16,7 @@ use Rattle.eval_mask.specs.declared.completing.Write.{Write}
 use Rattle.eval_mask.specs.declared.written.Lasting.{Lasting}
 use Rattle.eval_mask.proofs.Agreeing.{agree_by, agree_end, agree_next}
 use Rattle.eval_mask.proofs.Differences.{need_inside, same_all}
+use Rattle.eval_mask.proofs.Doings.{unwritten, written_here}
 
 -- register r after writes of one register: what holds of the values, if it is that, or of the registers under them
 passes : (rd x y : ℕ) (g h : ℕ → ℕ) (r mask : ℕ) → 0 < r → (r ≡ rd → SameWhere 32 mask x y) → ((r ≡ rd → ⊥) → SameWhere 32 mask (g r) (h r))
@@ -94,12 +95,6 @@ by_register needs j rd x y same =
           ]
       | inr out ↦ nothing _ x y (no_need needs rd j (λ both. omega (arith, both.0)))
     ]
-
-written_here : (rd v : ℕ) (f : ℕ → ℕ) → 0 < rd → written (record { rd = rd; value = v }) f rd ≡ v
-written_here rd v f h = grind (arith, nat_tests)
-
-unwritten : (rd v : ℕ) (f : ℕ → ℕ) (r : ℕ) → (r ≡ rd → ⊥) → written (record { rd = rd; value = v }) f r ≡ f r
-unwritten rd v f r ne = grind (arith, nat_tests)
 
 of_values : (mask a b x y : ℕ) → a ≡ x → b ≡ y → SameWhere 32 mask a b → SameWhere 32 mask x y
 of_values mask a b x y e f s = rw (sym e, sym f) s

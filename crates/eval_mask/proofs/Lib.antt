@@ -11,6 +11,8 @@ pub mod Masked
 pub mod Missed
 pub mod Moved
 pub mod OtherStores
+pub mod Numbers
+pub mod OtherRegister
 pub mod OwnChange
 pub mod Puts
 pub mod QuickDoings

@@ -3,7 +3,7 @@ use Rattle.std.proofs.Common.{◌≡◌, ℕ, ◌/◌, Bool, true, false, refl, 
 use Rattle.std.specs.Prelude.{Option, Some, None, [], if◌then◌else◌, slice_index}
 use Rattle.std.proofs.lemmas.Bool.{cases_eq, eqb-true}
 use Rattle.elf_load.specs.Image.{LoadedImage, word_in_ram}
-use Rattle.rv_table.specs.Accesses.{accesses, store_size}
+use Rattle.rv_table.specs.Accesses.{accesses}
 use Rattle.rv_table.specs.declared.action.Action.TheVariants.{Stores}
 use Rattle.rv_table.specs.declared.operation.StoreKind.{StoreKind}
 use Rattle.rv_table.specs.declared.operation.StoreKind.TheVariants.{Sb, Sh, Sw}
@@ -27,21 +27,24 @@ parted_never needs arch case doing p a = p.parts a.stop (λ none. (a.next none).
 
 -- ---- blocks in different words
 
-word_of_block : (kind : StoreKind) (x p : ℕ) → accesses (store_size kind) x p ≡ true → p / 4 ≡ x / 4
+word_of : (store : Store) (p : ℕ) → covers (Some store) p ≡ true → p / 4 ≡ store.address / 4
 unfolding accesses
-word_of_block Sb x p c = let e = eqb-true (p / 1) (x / 1) c in omega arith
-word_of_block Sh x p c = let e = eqb-true (p / 2) (x / 2) c in omega arith
-word_of_block Sw x p c = let e = eqb-true (p / 4) (x / 4) c in omega arith
+word_of store p c = by_kind store.kind c
+  where
+    by_kind : (kind : StoreKind) → covers (Some (record store { kind = kind })) p ≡ true → p / 4 ≡ store.address / 4
+    by_kind Sb h = let e = eqb-true (p / 1) (store.address / 1) h in omega arith
+    by_kind Sh h = let e = eqb-true (p / 2) (store.address / 2) h in omega arith
+    by_kind Sw h = let e = eqb-true (p / 4) (store.address / 4) h in omega arith
 
 -- where a store in RAM covers byte p, it is in the store's word
 word_if : (t : Bool) (kind : StoreKind) (x y p : ℕ) → covers (if t then Some (record { kind = kind; address = x; value = y }) else None) p ≡ true → p / 4 ≡ x / 4
-word_if true kind x y p c = word_of_block kind x p c
+word_if true kind x y p c = word_of (record { kind = kind; address = x; value = y }) p c
 word_if false kind x y p c = absurd (grind arith)
 
 pub apart_stores : (store : Store) (kind : StoreKind) (x y : ℕ) → (x / 4 ≡ store.address / 4 → ⊥) → (image : LoadedImage) (p : ℕ)
     → covers (Some store) p ≡ true → covers (store_by image (Stores kind x y)) p ≡ true → ⊥
 apart_stores store kind x y ne image p c d =
-    ne (sym (word_if (word_in_ram image (x / 4)) kind x y p d) ∙ word_of_block store.kind store.address p c)
+    ne (sym (word_if (word_in_ram image (x / 4)) kind x y p d) ∙ word_of store p c)
 
 -- ---- what is needed is missed
 

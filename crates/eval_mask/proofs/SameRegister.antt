@@ -32,7 +32,8 @@ use Rattle.eval_mask.specs.declared.completing.Write.{Write}
 use Rattle.eval_mask.proofs.Agreeing.{agree_end}
 use Rattle.eval_mask.proofs.Doings.{own_is}
 use Rattle.eval_mask.proofs.LastingValues.{below_seen, ended_or, nothing}
-use Rattle.eval_mask.proofs.WrittenValues.{by_reached, doing_is}
+use Rattle.eval_mask.proofs.ReadInputs.{own_doing}
+use Rattle.eval_mask.proofs.WrittenValues.{by_reached}
 
 -- the register that an operation writes
 unfoldable register_by : Operation → ℕ → ℕ
@@ -130,7 +131,7 @@ below_lasts needs arch w m d case value is a =
     (λ on.
     let here : agrees completed = subst (λ (t : Bool). agrees (left t)) on a in
     let own = own_is needs arch w m d case is on in
-    let does = doing_is needs arch w m d case is in
+    let does = own_doing needs arch w m d case is in
     let ends : end_of (doing_after image w d below.write case.issued).action ≡ None =
     sym ((above_is image case.own.first below (doing_after image w d below.write case.issued) memory).1)
     ∙ agree_end needs case.first_after f memory completed case.own here

@@ -71,7 +71,7 @@ unread_asked needs arch w m d other case is keeps same unread =
     (λ t. agrees_itself needs arch case _ left, λ a. refl)).0
     refl
 
-unread_masked : (needs : Needs) (arch : ArchState) (w : ResultLatch) (m : ExecutedLatch) (d : DecodedLatch) (case : Case) (k : ℕ) → IsCase needs arch w m d case
+pub unread_masked : (needs : Needs) (arch : ArchState) (w : ResultLatch) (m : ExecutedLatch) (d : DecodedLatch) (case : Case) (k : ℕ) → IsCase needs arch w m d case
     → case.on_path ≡ true → 31 ≤ k → k < 148 → DoesTheSame w case.own.below.write d (decoded.flipped d k) → case.reads_clock ≡ false
     → IsDecodedMasked needs arch (record { w = w; m = m; d = d }) case.oldest.value case.npc case.issued k
 unread_masked needs arch w m d case k is on from to same unread =

@@ -26,8 +26,9 @@ use Rattle.eval_mask.specs.declared.completing.Write.{Write}
 use Rattle.eval_mask.proofs.Completed.{alu_doing, doing_told, immediate_doing}
 use Rattle.eval_mask.proofs.Doings.{own_is, own_left}
 use Rattle.eval_mask.proofs.LastingValues.{above_needed, below_needed, first_needed, values_agree}
-use Rattle.eval_mask.proofs.Masked.{IsAskedOf, masked_exactly, masked_never}
+use Rattle.eval_mask.proofs.Masked.{IsAskedOf, masked_exactly, masked_never, no_both}
 use Rattle.eval_mask.proofs.Moved.{same_store_left}
+use Rattle.eval_mask.proofs.ReadInputs.{own_doing}
 use Rattle.eval_mask.proofs.OwnChange.{own_below, own_write, write_of_change}
 
 -- ---- with other values
@@ -52,14 +53,6 @@ values_exactly needs arch w m d case x y z r left is same e =
 
 -- ---- what ID/EX does
 
-pub doing_is : (needs : Needs) (arch : ArchState) (w : ResultLatch) (m : ExecutedLatch) (d : DecodedLatch) (case : Case) → IsCase needs arch w m d case
-    → case.doing ≡ doing_with arch.image d case.issued case.a case.held
-doing_is needs arch w m d case is =
-    is.doing
-    ∙ sym (doing_told arch.image w m d (state_of arch).memory case.own.below.write case.issued (own_write needs arch w m d case is))
-    ∙ ap (λ (v : ℕ). doing_with arch.image d case.issued v (operand_after case.own.below.write w d.rs2 d.b)) (sym is.a)
-    ∙ ap (λ (v : ℕ). doing_with arch.image d case.issued case.a v) (sym is.held)
-
 or_zero : Option ℕ → ℕ
 or_zero (Some x) = x
 or_zero None = 0
@@ -80,10 +73,7 @@ plain_own : (needs : Needs) (arch : ArchState) (w : ResultLatch) (m : ExecutedLa
     → plain_value d a held ≡ Some z → (y : ℕ) × (case.doing ≡ plain_doing d y)
 plain_own needs arch w m d case a held z is p =
     let again = plain_again (operation_of d.op) a held case.a case.held d.imm z p in
-    (again.0, doing_is needs arch w m d case is ∙ plain_with arch.image d case.issued case.a case.held (again.0) (operation_of d.op) refl (again.1))
-
-pub not_both : (t : Bool) → t ≡ true → t ≡ false → ⊥
-not_both t e f = grind arith
+    (again.0, own_doing needs arch w m d case is ∙ plain_with arch.image d case.issued case.a case.held (again.0) (operation_of d.op) refl (again.1))
 
 -- where ID/EX is completed and where it isn't
 pub by_reached : (t : Bool) (P : Type 0) → (t ≡ true → P) → (t ≡ false → P) → P
@@ -111,7 +101,7 @@ untaken_doing needs arch w m d case value is on free =
     (not_given_a below value w d.rs1 d.a case.reached (d.rs2 == below.rd) on free ∙ sym is.a)
     ∙ ap (λ (v : ℕ). doing_with arch.image d case.issued case.a v)
     (not_given_b below value w d.rs2 d.b case.reached (d.rs1 == below.rd) on free ∙ sym is.held)
-    ∙ sym (doing_is needs arch w m d case is)
+    ∙ sym (own_doing needs arch w m d case is)
 
 below_untaken : (needs : Needs) (arch : ArchState) (w : ResultLatch) (m : ExecutedLatch) (d : DecodedLatch) (case : Case) (value : ℕ) → IsCase needs arch w m d case
     → is_taken case d case.own.below.write.rd ≡ false
@@ -220,7 +210,7 @@ free_doing needs arch w other m d case is on e free =
     (same_first_a below w other d.rs1 d.a case.reached (d.rs2 == w.rd) on e free ∙ sym is.a)
     ∙ ap (λ (v : ℕ). doing_with arch.image d case.issued case.a v)
     (same_first_b below w other d.rs2 d.b case.reached (d.rs1 == w.rd) on e free ∙ sym is.held)
-    ∙ sym (doing_is needs arch w m d case is)
+    ∙ sym (own_doing needs arch w m d case is)
 
 first_left : (image : LoadedImage) (rd v u : ℕ) (below : Change) (doing : Doing) (memory : ℕ → ℕ) (own : Aftermath)
     → own ≡ left_by image (record { rd = rd; value = u }) below doing memory
@@ -336,7 +326,7 @@ same_completed needs arch w m n d case below value is o =
 pub stopped_if : (t : Bool) (image : LoadedImage) (first : Write) (below : Change) (doing : Doing) (memory : ℕ → ℕ) (npc : ℕ) (end : Option End) (own : Aftermath) (change : Change)
     → t ≡ false → own ≡ (if t then left_by image first below doing memory else record { first = first; below = below; above = no_change; pc = npc; end = end })
     → (record own { below = change }) ≡ record { first = first; below = change; above = no_change; pc = npc; end = end }
-stopped_if true image first below doing memory npc end own change t e = absurd (not_both true refl t)
+stopped_if true image first below doing memory npc end own change t e = absurd (no_both true refl t)
 stopped_if false image first below doing memory npc end own change t e = rw e refl
 
 below_is : (needs : Needs) (arch : ArchState) (w : ResultLatch) (m n : ExecutedLatch) (d : DecodedLatch) (case : Case) (below : Change) (value : ℕ)
@@ -395,7 +385,7 @@ below_asked needs arch w m n d case below value r is change other unread h =
 stopped_first : (t : Bool) (image : LoadedImage) (first other : Write) (below : Change) (doing : Doing) (memory : ℕ → ℕ) (npc : ℕ) (end : Option End) (own : Aftermath)
     → t ≡ false → own ≡ (if t then left_by image first below doing memory else record { first = first; below = below; above = no_change; pc = npc; end = end })
     → (record own { first = other }) ≡ record { first = other; below = below; above = no_change; pc = npc; end = end }
-stopped_first true image first other below doing memory npc end own t e = absurd (not_both true refl t)
+stopped_first true image first other below doing memory npc end own t e = absurd (no_both true refl t)
 stopped_first false image first other below doing memory npc end own t e = rw e refl
 
 first_is : (needs : Needs) (arch : ArchState) (w other : ResultLatch) (m : ExecutedLatch) (d : DecodedLatch) (case : Case) → IsCase needs arch w m d case

@@ -1,21 +1,22 @@
 // The masks of ID/EX.
-ghost use Rattle.std.specs.Prelude.{◌≡◌, ◌↔◌, ◌+◌, ◌-◌, ◌*◌, ◌%◌, ◌^◌, ◌<◌, ◌≤◌, ℕ, IsTrue, bit_or, false, true, if◌then◌else◌};
+ghost use Rattle.std.specs.Prelude.{◌≡◌, ◌↔◌, ◌+◌, ◌-◌, ◌*◌, ◌%◌, ◌^◌, ◌<◌, ◌≤◌, ℕ, IsTrue, None, bit_or, false, true, if◌then◌else◌};
 ghost use Rattle.pipe_latch.specs.DecodedBits as bits;
 ghost use Rattle.eval_mask.specs.Cases.{IsCase, IsMaskBelow};
 ghost use Rattle.eval_mask.specs.LatchMasks.{HasBits, IsDecodedMasked};
 ghost use Rattle.eval_mask.specs.OtherDoings.{IsFacts, first_bit};
-ghost use Rattle.eval_mask.specs.Unread.{DoesTheSame};
+ghost use Rattle.eval_mask.specs.Unread.{DoesTheSame, is_a_unread, is_b_unread};
 
 use crate::cases::{Case, is_masked};
 use crate::completing::doing_of;
 use crate::inputs::{Facts, Input, facts_of, first_bit, input_bit, number_bit};
 use crate::needed::is_doing_masked;
 use crate::unread::{is_a_unread, is_b_unread, is_immediate_unread};
+use crate::values::{alu_first, alu_second, immediate_first, immediate_second};
 use bit_field::Struck;
 use need_pass::NeedTable;
 use pipe_latch::{ExMem, IdEx, MemWb};
 use rv_isa::Arch;
-use rv_table::is_clocked;
+use rv_table::{Operation, is_clocked};
 
 /// Whether bit `k` of ID/EX, one of a field whose bits can be masked, is masked, where ID/EX holds the next instruction. MEM/WB and EX/MEM
 /// stay as they are, so what ID/EX does decides alone.
@@ -64,6 +65,14 @@ fn is_read(case: &Case) -> bool
     case.reached && !case.reads_clock
 }
 
+/// Whether no other register can be written in place of the one that ID/EX writes.
+fn is_register_needed(case: &Case, facts: Facts) -> bool
+    ensures needed { IsTrue result → IsTrue facts.needed }
+    ensures alone { IsTrue result → case.now.own.above.store ≡ None }
+{
+    facts.needed && case.own.above.store.is_none()
+}
+
 /// Whether bit `k` of ID/EX, one of its code or its registers, is masked.
 fn front_bit(
     w: &MemWb,
@@ -85,6 +94,9 @@ fn front_bit(
 {
     if 42 <= k && is_read(case) {
         return number_bit(w, m, d, arch, needs, case, facts, k);
+    }
+    if 37 <= k && k < 42 && is_read(case) && is_register_needed(case, facts) {
+        return false;
     }
     decoded_bit(w, m, d, arch, needs, case, facts, k)
 }
@@ -146,6 +158,81 @@ pub fn whole_field(reads_clock: bool) -> u32
     if reads_clock { 0 } else { u32::MAX }
 }
 
+/// The masked bits of the first operand of a completed ID/EX, which reads it.
+fn read_a(
+    w: &MemWb,
+    m: &ExMem,
+    d: &IdEx,
+    arch: &Arch<'_>,
+    needs: &NeedTable,
+    case: &Case,
+    facts: Facts,
+) -> u32
+    requires within { case.now.first_after ≤ needs.now.count }
+    requires case { IsCase needs.now arch.now w.now m.now d.now case.now }
+    requires on_path { case.now.on_path ≡ true }
+    requires reached { case.now.reached ≡ true }
+    requires unread { case.now.reads_clock ≡ false }
+    requires facts { IsFacts needs.now arch.now d.now case.now facts }
+    requires read { is_a_unread w.now d.now case.now.own.below.write ≡ false }
+    ensures { IsMaskBelow 32 (λ i. IsDecodedMasked needs.now arch.now (record { w = w.now; m = m.now; d = d.now }) case.now.oldest.value case.now.npc case.now.issued (52 + i)) result }
+{
+    match facts.operation {
+        Operation::Alu(kind) => alu_first(w, m, d, arch, needs, case, kind),
+        Operation::AluImmediate(kind) => immediate_first(w, m, d, arch, needs, case, kind),
+        _ => field_bits(w, m, d, arch, needs, case, facts, Input::A, false),
+    }
+}
+
+/// Those of the second.
+fn read_b(
+    w: &MemWb,
+    m: &ExMem,
+    d: &IdEx,
+    arch: &Arch<'_>,
+    needs: &NeedTable,
+    case: &Case,
+    facts: Facts,
+) -> u32
+    requires within { case.now.first_after ≤ needs.now.count }
+    requires case { IsCase needs.now arch.now w.now m.now d.now case.now }
+    requires on_path { case.now.on_path ≡ true }
+    requires reached { case.now.reached ≡ true }
+    requires unread { case.now.reads_clock ≡ false }
+    requires facts { IsFacts needs.now arch.now d.now case.now facts }
+    requires read { is_b_unread w.now d.now case.now.own.below.write ≡ false }
+    ensures { IsMaskBelow 32 (λ i. IsDecodedMasked needs.now arch.now (record { w = w.now; m = m.now; d = d.now }) case.now.oldest.value case.now.npc case.now.issued (84 + i)) result }
+{
+    match facts.operation {
+        Operation::Alu(kind) => alu_second(w, m, d, arch, needs, case, kind),
+        _ => field_bits(w, m, d, arch, needs, case, facts, Input::B, false),
+    }
+}
+
+/// Those of the immediate.
+fn read_immediate(
+    w: &MemWb,
+    m: &ExMem,
+    d: &IdEx,
+    arch: &Arch<'_>,
+    needs: &NeedTable,
+    case: &Case,
+    facts: Facts,
+) -> u32
+    requires within { case.now.first_after ≤ needs.now.count }
+    requires case { IsCase needs.now arch.now w.now m.now d.now case.now }
+    requires on_path { case.now.on_path ≡ true }
+    requires reached { case.now.reached ≡ true }
+    requires unread { case.now.reads_clock ≡ false }
+    requires facts { IsFacts needs.now arch.now d.now case.now facts }
+    ensures { IsMaskBelow 32 (λ i. IsDecodedMasked needs.now arch.now (record { w = w.now; m = m.now; d = d.now }) case.now.oldest.value case.now.npc case.now.issued (116 + i)) result }
+{
+    match facts.operation {
+        Operation::AluImmediate(kind) => immediate_second(w, m, d, arch, needs, case, kind),
+        _ => field_bits(w, m, d, arch, needs, case, facts, Input::Immediate, false),
+    }
+}
+
 /// The masked bits of one of ID/EX's inputs. One that isn't read is masked whole.
 #[tactic(auto, using(crate::proofs::UnreadMasks::unread_field))]
 fn field_bits(
@@ -195,6 +282,9 @@ fn a_bits(
     ensures { IsMaskBelow 32 (λ i. IsDecodedMasked needs.now arch.now (record { w = w.now; m = m.now; d = d.now }) case.now.oldest.value case.now.npc case.now.issued (52 + i)) result }
 {
     let is_unread = is_a_unread(w, d, &case.own.below.write);
+    if !is_unread && is_read(case) {
+        return read_a(w, m, d, arch, needs, case, facts);
+    }
     field_bits(w, m, d, arch, needs, case, facts, Input::A, is_unread)
 }
 
@@ -215,6 +305,9 @@ fn b_bits(
     ensures { IsMaskBelow 32 (λ i. IsDecodedMasked needs.now arch.now (record { w = w.now; m = m.now; d = d.now }) case.now.oldest.value case.now.npc case.now.issued (84 + i)) result }
 {
     let is_unread = is_b_unread(w, d, &case.own.below.write);
+    if !is_unread && is_read(case) {
+        return read_b(w, m, d, arch, needs, case, facts);
+    }
     field_bits(w, m, d, arch, needs, case, facts, Input::B, is_unread)
 }
 
@@ -235,6 +328,9 @@ fn immediate_bits(
     ensures { IsMaskBelow 32 (λ i. IsDecodedMasked needs.now arch.now (record { w = w.now; m = m.now; d = d.now }) case.now.oldest.value case.now.npc case.now.issued (116 + i)) result }
 {
     let is_unread = is_immediate_unread(d);
+    if !is_unread && is_read(case) {
+        return read_immediate(w, m, d, arch, needs, case, facts);
+    }
     field_bits(
         w,
         m,

@@ -7,13 +7,15 @@ ghost use Rattle.rv_table.specs.Arithmetic.{sum32};
 ghost use Rattle.eval_mask.specs.Cases.{IsCase};
 ghost use Rattle.eval_mask.specs.Compared.{IsKnown, SameWhere, need_at};
 ghost use Rattle.eval_mask.specs.LatchMasks.{IsDecodedMasked};
+ghost use Rattle.bit_field.specs.Layouts.{flip};
+ghost use Rattle.eval_mask.specs.Unread.{DoesTheSame};
 ghost use Rattle.eval_mask.specs.OtherDoings.{DoesAlike, IsFacts, IsLike, NeedsOwn, first_bit};
 
 use crate::cases::Case;
 use crate::compare::same_word;
 use crate::completing::{Write, doing_with, operand_after};
 use crate::needed::{is_doing_masked, is_needed};
-use bit_field::{Struck, flip_at_u32};
+use bit_field::{Struck, flip_at_u8, flip_at_u32};
 use need_pass::NeedTable;
 use pipe_latch::{ExMem, IdEx, MemWb};
 use rv_isa::Arch;
@@ -220,6 +222,42 @@ pub fn input_bit(
     is_input_masked(w, m, d, arch, needs, case, facts, &other)
 }
 
+/// The first operand under the number of its register with bit `k` flipped.
+fn first_under(below: &Write, w: &MemWb, d: &IdEx, k: u32) -> u32
+    requires { k < 5 }
+    ensures { result ≡ operand_after below.now w.now (flip d.now.rs1 k) d.now.a }
+{
+    let mut number = d.rs1;
+    flip_at_u8(&mut number, 5, k);
+    operand_after(below, w, number, d.a)
+}
+
+/// The second.
+fn second_under(below: &Write, w: &MemWb, d: &IdEx, k: u32) -> u32
+    requires { k < 5 }
+    ensures { result ≡ operand_after below.now w.now (flip d.now.rs2 k) d.now.b }
+{
+    let mut number = d.rs2;
+    flip_at_u8(&mut number, 5, k);
+    operand_after(below, w, number, d.b)
+}
+
+/// Whether ID/EX with bit `k` flipped, one of its two numbers of registers that it reads, has the operands of the case.
+#[tactic(auto, using(crate::proofs::Numbers::first_kept_at, crate::proofs::Numbers::second_kept_at))]
+fn keeps_operands(case: &Case, w: &MemWb, d: &IdEx, k: u32) -> bool
+    requires a { case.now.a ≡ operand_after case.now.own.below.write w.now d.now.rs1 d.now.a }
+    requires held { case.now.held ≡ operand_after case.now.own.below.write w.now d.now.rs2 d.now.b }
+    requires from { 42 ≤ k }
+    requires to { k < 52 }
+    ensures { IsTrue result → DoesTheSame w.now case.now.own.below.write d.now (bits.flipped d.now k) }
+{
+    let below = &case.own.below.write;
+    if k < 47 {
+        return first_under(below, w, d, k - 42) == case.a;
+    }
+    second_under(below, w, d, k - 47) == case.held
+}
+
 /// Whether bit `k` of ID/EX, one of its two numbers of registers that it reads, is masked, where ID/EX is completed.
 pub fn number_bit(
     w: &MemWb,
@@ -241,6 +279,9 @@ pub fn number_bit(
     requires to { k < 52 }
     ensures { IsTrue result ↔ IsDecodedMasked needs.now arch.now (record { w = w.now; m = m.now; d = d.now }) case.now.oldest.value case.now.npc case.now.issued k }
 {
+    if keeps_operands(case, w, d, k) {
+        return true;
+    }
     let mut other = *d;
     other.flip(k);
     is_input_masked(w, m, d, arch, needs, case, facts, &other)

@@ -1,5 +1,6 @@
-use Rattle.std.proofs.Common.{arith}
+use Rattle.std.proofs.Common.{refl, arith}
 use Rattle.eval_mask.proofs.ReadInputs.{number_keeps}
+use Rattle.eval_mask.proofs.UnreadMasks.{unread_masked}
 use Rattle.eval_mask.proofs.inputs.number_bit.Goals as goal
 
 pub is_input_masked-requires-clause-op : goal.is_input_masked-requires-clause-op
@@ -13,3 +14,12 @@ is_input_masked-requires-clause-pc c = rw c.flip.ensures (number_keeps c.args.d.
 
 pub returns : goal.returns
 returns c = c.is_input_masked.ensures c.args.k (omega (arith, c.requires.from)) (omega (arith, c.requires.to)) c.flip.ensures
+
+pub returns-then-keeps_operands : goal.returns-then-keeps_operands
+returns-then-keeps_operands c = (
+  λ t.
+      unread_masked c.args.needs.now c.args.arch.now c.args.w.now c.args.m.now c.args.d.now c.args.case.now c.args.k c.requires.case
+      c.requires.on_path (omega (arith, c.requires.from)) (omega (arith, c.requires.to))
+      (c.keeps_operands.ensures c.if-keeps_operands.true) c.requires.unread,
+  λ s. refl,
+)
