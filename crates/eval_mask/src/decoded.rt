@@ -54,7 +54,7 @@ fn decoded_bit(
         case.issued,
         arch.image(),
     );
-    is_doing_masked(arch, needs, case, facts.needed, &doing)
+    is_doing_masked(arch, needs, case, facts, &doing)
 }
 
 /// Whether ID/EX is completed and reads no cycle counter.

@@ -13,6 +13,7 @@ mod cases;
 mod compare;
 mod completing;
 mod decoded;
+mod idle;
 mod inputs;
 mod latches;
 mod needed;
