@@ -22,4 +22,5 @@ pub mod UnreadBits
 pub mod UnreadFields
 pub mod UnreadMasks
 pub mod ValueBits
+pub mod WayBits
 pub mod WordBits

@@ -12,6 +12,7 @@ use crate::inputs::{Facts, Input, facts_of, first_bit, input_bit, number_bit};
 use crate::needed::is_doing_masked;
 use crate::unread::{is_a_unread, is_b_unread, is_immediate_unread};
 use crate::values::{alu_first, alu_second, immediate_first, immediate_second};
+use crate::ways::{branch_first, branch_second};
 use bit_field::Struck;
 use need_pass::NeedTable;
 use pipe_latch::{ExMem, IdEx, MemWb};
@@ -180,6 +181,7 @@ fn read_a(
     match facts.operation {
         Operation::Alu(kind) => alu_first(w, m, d, arch, needs, case, kind),
         Operation::AluImmediate(kind) => immediate_first(w, m, d, arch, needs, case, kind),
+        Operation::Branch(kind) => branch_first(w, m, d, arch, needs, case, facts, kind),
         _ => field_bits(w, m, d, arch, needs, case, facts, Input::A, false),
     }
 }
@@ -205,6 +207,7 @@ fn read_b(
 {
     match facts.operation {
         Operation::Alu(kind) => alu_second(w, m, d, arch, needs, case, kind),
+        Operation::Branch(kind) => branch_second(w, m, d, arch, needs, case, facts, kind),
         _ => field_bits(w, m, d, arch, needs, case, facts, Input::B, false),
     }
 }

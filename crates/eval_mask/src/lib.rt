@@ -20,6 +20,7 @@ mod needed;
 mod quick;
 mod unread;
 mod values;
+mod ways;
 mod words;
 
 pub use latches::{LatchMask, latch_bits};
