@@ -9,6 +9,7 @@ pub mod Masked
 pub mod Missed
 pub mod Moved
 pub mod Numbers
+pub mod OtherCode
 pub mod OtherRegister
 pub mod OwnChange
 pub mod Puts

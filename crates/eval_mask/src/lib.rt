@@ -10,6 +10,7 @@
 #![tactic(auto)]
 
 mod cases;
+mod codes;
 mod compare;
 mod completing;
 mod decoded;
