@@ -164,7 +164,7 @@ value_bits needs j rd x y g a b e f s k l one =
         let bit : bit_at (need_at needs rd j) k ≡ 0 = ap (λ (v : ℕ). bit_at v k) zero_mask ∙ bit_at-zero k in
         omega (arith, bit, one)
 
-writes_agree : (image : LoadedImage) (needs : Needs) (j : ℕ) (f memory : ℕ → ℕ) (first : Write) (below : Change) (rd x y next : ℕ)
+pub writes_agree : (image : LoadedImage) (needs : Needs) (j : ℕ) (f memory : ℕ → ℕ) (first : Write) (below : Change) (rd x y next : ℕ)
     → SameWhere 32 (need_at needs rd j) x y ↔ Agree needs j (state_after (left_by image first below (record { action = Writes rd x; next = next }) memory) f memory) (state_after (left_by image first below (record { action = Writes rd y; next = next }) memory) f memory)
 unfolding left_by change_of
 writes_agree image needs j f memory first below rd x y next =

@@ -150,6 +150,9 @@ place_of : {F : Type 0} (width : F → ℕ) (before : List F) (f : F) (after : L
     → located width (before ++ (f ∷ after)) (bits_of width before + i) ≡ Some (f, i)
 place_of width before f after i l = skip width before (f ∷ after) i ∙ located-here width f after i l
 
+pub op_flipped : (d : DecodedLatch) (i : ℕ) → i < 6 → (record d { op = flip d.op i }) ≡ decoded.flipped d (31 + i)
+op_flipped d i l = sym (ap (flip_by (decoded.flip_in d) d) (place_of decoded.width (Valid ∷ Pc ∷ []) Op (Rd ∷ Rs1 ∷ Rs2 ∷ A ∷ B ∷ Imm ∷ Count ∷ []) i l))
+
 pub rd_flipped : (d : DecodedLatch) (i : ℕ) → i < 5 → (record d { rd = flip d.rd i }) ≡ decoded.flipped d (37 + i)
 rd_flipped d i l = sym (ap (flip_by (decoded.flip_in d) d) (place_of decoded.width (Valid ∷ Pc ∷ Op ∷ []) Rd (Rs1 ∷ Rs2 ∷ A ∷ B ∷ Imm ∷ Count ∷ []) i l))
 

@@ -12,6 +12,7 @@ pub mod Missed
 pub mod Moved
 pub mod OtherStores
 pub mod Numbers
+pub mod OtherCode
 pub mod OtherRegister
 pub mod OwnChange
 pub mod Puts
@@ -21,9 +22,11 @@ pub mod Rows
 pub mod SameRegister
 pub mod Seeming
 pub mod UnderLog
+pub mod UnneededStores
 pub mod UnreadBits
 pub mod UnreadFields
 pub mod UnreadMasks
 pub mod ValueBits
+pub mod WayBits
 pub mod WordBits
 pub mod WrittenValues

@@ -1,6 +1,6 @@
 -- Doings of ID/EX that can't leave the same: they part from the latches as they are, or miss what these need.
-use Rattle.std.proofs.Common.{◌≡◌, ℕ, ◌/◌, Bool, true, false, refl, sym, ◌∙◌, ap, subst, arith, inl, inr}
-use Rattle.std.specs.Prelude.{Option, Some, None, [], if◌then◌else◌, slice_index}
+use Rattle.std.proofs.Common.{◌≡◌, ◌↔◌, ℕ, ◌/◌, Bool, true, false, refl, sym, ◌∙◌, ap, subst, arith, inl, inr}
+use Rattle.std.specs.Prelude.{IsTrue, Option, Some, None, [], if◌then◌else◌, slice_index}
 use Rattle.std.proofs.lemmas.Bool.{cases_eq, eqb-true}
 use Rattle.elf_load.specs.Image.{LoadedImage, word_in_ram}
 use Rattle.rv_table.specs.Accesses.{accesses}
@@ -12,18 +12,27 @@ use Rattle.rv_isa.specs.Instruction.{with_byte}
 use Rattle.need_pass.specs.Tables.{Needs, byte_need, reg_need}
 use Rattle.eval_mask.specs.Aftermaths.{change_of, left_by, no_change, store_by, stored_over, written}
 use Rattle.eval_mask.specs.Compared.{SameByte, SameBytes, SameRegisters, SameWhere, covers}
-use Rattle.eval_mask.specs.OtherDoings.{DoesAlike, Misses, NeedsOwn, Parts}
+use Rattle.eval_mask.specs.OtherDoings.{DoesAlike, GoesAlike, Misses, NeedsOwn}
 use Rattle.eval_mask.specs.declared.cases.Case.{Case}
 use Rattle.eval_mask.specs.declared.completing.Aftermath.{Aftermath}
 use Rattle.eval_mask.specs.declared.completing.Doing.{Doing}
 use Rattle.eval_mask.specs.declared.completing.Store.{Store}
 use Rattle.eval_mask.specs.declared.completing.Write.{Write}
 use Rattle.eval_mask.proofs.Agreeing.{agree_by, agree_next}
+use Rattle.eval_mask.proofs.Masked.{no_both, not_true}
 use Rattle.eval_mask.proofs.Differences.{if_or, same_all, uncovered, unwritten}
 
-pub parted_never : (needs : Needs) (arch : ArchState) (case : Case) (doing : Doing) → Parts case doing → DoesAlike needs arch case doing → ⊥
+pub goes_with : (needs : Needs) (arch : ArchState) (case : Case) (doing : Doing) → DoesAlike needs arch case doing → GoesAlike case doing
 unfolding left_by
-parted_never needs arch case doing p a = p.parts a.stop (λ none. (a.next none).0)
+goes_with needs arch case doing a = record { end = a.stop; next = λ none. (a.next none).0 }
+
+pub parted_never : (needs : Needs) (arch : ArchState) (case : Case) (doing : Doing) (t : Bool) → IsTrue t ↔ GoesAlike case doing → t ≡ false
+    → DoesAlike needs arch case doing → ⊥
+parted_never needs arch case doing t same e a = no_both t (is_true t (same.1 (goes_with needs arch case doing a))) e
+  where
+    is_true : (b : Bool) → IsTrue b → b ≡ true
+    is_true true h = refl
+    is_true false h = absurd (not_true h)
 
 -- ---- blocks in different words
 

@@ -26,11 +26,11 @@ use Rattle.eval_mask.proofs.Differences.{same_needed}
 use Rattle.eval_mask.proofs.Fields.{a_flipped, b_flipped, immediate_flipped}
 use Rattle.eval_mask.proofs.ReadInputs.{input_exactly, input_inside, input_keeps, like_of, plain_alike}
 
-held_on : (below : Write) (w : ResultLatch) (rs v : ℕ) → is_forwarded below w rs ≡ false → operand_after below w rs v ≡ v
+pub held_on : (below : Write) (w : ResultLatch) (rs v : ℕ) → is_forwarded below w rs ≡ false → operand_after below w rs v ≡ v
 held_on below w rs v e = grind (arith, nat_tests)
 
 -- the same mask, of what holds of the same bits
-as_mask : (P Q : ℕ → Type 0) (mask : ℕ) → ((i : ℕ) → i < 32 → P i ↔ Q i) → IsMaskBelow 32 P mask → IsMaskBelow 32 Q mask
+pub as_mask : (P Q : ℕ → Type 0) (mask : ℕ) → ((i : ℕ) → i < 32 → P i ↔ Q i) → IsMaskBelow 32 P mask → IsMaskBelow 32 Q mask
 as_mask P Q mask same is = record {
   bits =
       λ k. (

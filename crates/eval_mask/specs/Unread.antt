@@ -6,7 +6,7 @@ use Rattle.rv_table.specs.declared.action.Action.{Action}
 use Rattle.rv_table.specs.declared.action.Action.TheVariants.{Stores}
 use Rattle.rv_table.specs.Operations.{operation_of}
 use Rattle.rv_table.specs.declared.operation.Operation.{Operation}
-use Rattle.rv_table.specs.declared.operation.Operation.TheVariants.{Lui, Auipc, Jal, Jalr, Branch, Load, Store, AluImmediate, Alu, Ecall}
+use Rattle.rv_table.specs.declared.operation.Operation.TheVariants.{Lui, Auipc, Jal, Jalr, Branch, Load, Store, AluImmediate, Alu, Ecall, ReadCounter}
 use Rattle.pipe_latch.specs.Latches.{DecodedLatch, ResultLatch, op_of_latch}
 use Rattle.eval_mask.specs.Aftermaths.{doing_after}
 use Rattle.eval_mask.specs.declared.completing.Write.{Write}
@@ -40,6 +40,18 @@ reads_immediate (Load kind) = true
 reads_immediate (Store kind) = true
 reads_immediate (AluImmediate kind) = true
 reads_immediate _ = false
+
+-- the register that it names is one that it writes
+abbrev pub writes_register : Operation → Bool
+writes_register Lui = true
+writes_register Auipc = true
+writes_register Jal = true
+writes_register Jalr = true
+writes_register (Load kind) = true
+writes_register (AluImmediate kind) = true
+writes_register (Alu kind) = true
+writes_register (ReadCounter counter) = true
+writes_register _ = false
 
 -- EX/MEM or MEM/WB hands the operand in
 abbrev pub is_forwarded : Write → ResultLatch → ℕ → Bool

@@ -114,7 +114,7 @@ fn same_values(needs: &NeedTable, at: u32, known: &Known, r: u8, a: u32, b: u32)
 
 /// Whether two values of the byte at a byte address are the same where it is needed.
 #[tactic(auto, using(crate::proofs::Differences::same_all))]
-fn same_byte_values(needs: &NeedTable, at: u32, address: u32, a: u8, b: u8) -> bool
+pub fn same_byte_values(needs: &NeedTable, at: u32, address: u32, a: u8, b: u8) -> bool
     requires { at ≤ needs.now.count }
     ensures { IsTrue result ↔ SameWhere 8 (byte_need needs.now address at) a b }
 {

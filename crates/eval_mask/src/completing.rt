@@ -88,7 +88,7 @@ pub fn register_over(write: &Write, r: u8, under: u32) -> u32
 
 /// The byte at `address` after a store, from the byte under it.
 #[tactic(auto, unfolding(rv_table::specs::Accesses::stored, rv_table::specs::Accesses::accesses, rv_table::specs::Accesses::byte_of))]
-fn byte_over(store: &Option<Store>, address: u32, under: u8) -> u8
+pub fn byte_over(store: &Option<Store>, address: u32, under: u8) -> u8
     ensures { (f : ℕ → ℕ) → f address ≡ under → result ≡ stored_over store.now f address }
 {
     match store {
@@ -158,7 +158,7 @@ fn load(arch: &Arch<'_>, under: &Option<Store>, kind: LoadKind, address: u32) ->
 }
 
 /// The value that an action writes into its register. A load outside RAM gives 0.
-fn given(arch: &Arch<'_>, under: &Option<Store>, action: &Action) -> u32
+pub fn given(arch: &Arch<'_>, under: &Option<Store>, action: &Action) -> u32
     ensures { result ≡ step.given arch.now.image action.now (stored_over under.now (state_of arch.now).memory) }
 {
     match *action {

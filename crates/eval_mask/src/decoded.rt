@@ -7,11 +7,13 @@ ghost use Rattle.eval_mask.specs.OtherDoings.{IsFacts, first_bit};
 ghost use Rattle.eval_mask.specs.Unread.{DoesTheSame, is_a_unread, is_b_unread};
 
 use crate::cases::{Case, is_masked};
+use crate::codes::code_bit;
 use crate::completing::doing_of;
 use crate::inputs::{Facts, Input, facts_of, first_bit, input_bit, number_bit};
 use crate::needed::is_doing_masked;
-use crate::unread::{is_a_unread, is_b_unread, is_immediate_unread};
+use crate::unread::{is_a_unread, is_b_unread, is_immediate_unread, writes_register};
 use crate::values::{alu_first, alu_second, immediate_first, immediate_second};
+use crate::ways::{branch_first, branch_second};
 use bit_field::Struck;
 use need_pass::NeedTable;
 use pipe_latch::{ExMem, IdEx, MemWb};
@@ -54,7 +56,7 @@ fn decoded_bit(
         case.issued,
         arch.image(),
     );
-    is_doing_masked(arch, needs, case, facts.needed, &doing)
+    is_doing_masked(arch, needs, case, facts, &doing)
 }
 
 /// Whether ID/EX is completed and reads no cycle counter.
@@ -71,6 +73,36 @@ fn is_register_needed(case: &Case, facts: Facts) -> bool
     ensures alone { IsTrue result → case.now.own.above.store ≡ None }
 {
     facts.needed && case.own.above.store.is_none()
+}
+
+/// Whether bit `k` of ID/EX, one of the number of the register that it writes, is masked, where it is completed.
+fn register_bit(
+    w: &MemWb,
+    m: &ExMem,
+    d: &IdEx,
+    arch: &Arch<'_>,
+    needs: &NeedTable,
+    case: &Case,
+    facts: Facts,
+    k: u32,
+) -> bool
+    requires within { case.now.first_after ≤ needs.now.count }
+    requires case { IsCase needs.now arch.now w.now m.now d.now case.now }
+    requires on_path { case.now.on_path ≡ true }
+    requires reached { case.now.reached ≡ true }
+    requires unread { case.now.reads_clock ≡ false }
+    requires facts { IsFacts needs.now arch.now d.now case.now facts }
+    requires from { 37 ≤ k }
+    requires to { k < 42 }
+    ensures { IsTrue result ↔ IsDecodedMasked needs.now arch.now (record { w = w.now; m = m.now; d = d.now }) case.now.oldest.value case.now.npc case.now.issued k }
+{
+    if !writes_register(facts.operation) {
+        return true;
+    }
+    if is_register_needed(case, facts) {
+        return false;
+    }
+    decoded_bit(w, m, d, arch, needs, case, facts, k)
 }
 
 /// Whether bit `k` of ID/EX, one of its code or its registers, is masked.
@@ -92,13 +124,16 @@ fn front_bit(
     requires to { k < 52 }
     ensures { IsTrue result ↔ IsDecodedMasked needs.now arch.now (record { w = w.now; m = m.now; d = d.now }) case.now.oldest.value case.now.npc case.now.issued k }
 {
-    if 42 <= k && is_read(case) {
-        return number_bit(w, m, d, arch, needs, case, facts, k);
+    if !is_read(case) {
+        return decoded_bit(w, m, d, arch, needs, case, facts, k);
     }
-    if 37 <= k && k < 42 && is_read(case) && is_register_needed(case, facts) {
-        return false;
+    if k < 37 {
+        return code_bit(w, m, d, arch, needs, case, facts, k - 31);
     }
-    decoded_bit(w, m, d, arch, needs, case, facts, k)
+    if k < 42 {
+        return register_bit(w, m, d, arch, needs, case, facts, k);
+    }
+    number_bit(w, m, d, arch, needs, case, facts, k)
 }
 
 /// Whether bit `k` of one of ID/EX's inputs is masked.
@@ -180,6 +215,7 @@ fn read_a(
     match facts.operation {
         Operation::Alu(kind) => alu_first(w, m, d, arch, needs, case, kind),
         Operation::AluImmediate(kind) => immediate_first(w, m, d, arch, needs, case, kind),
+        Operation::Branch(kind) => branch_first(w, m, d, arch, needs, case, facts, kind),
         _ => field_bits(w, m, d, arch, needs, case, facts, Input::A, false),
     }
 }
@@ -205,6 +241,7 @@ fn read_b(
 {
     match facts.operation {
         Operation::Alu(kind) => alu_second(w, m, d, arch, needs, case, kind),
+        Operation::Branch(kind) => branch_second(w, m, d, arch, needs, case, facts, kind),
         _ => field_bits(w, m, d, arch, needs, case, facts, Input::B, false),
     }
 }

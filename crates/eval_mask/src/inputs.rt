@@ -14,7 +14,7 @@ ghost use Rattle.eval_mask.specs.OtherDoings.{DoesAlike, IsFacts, IsLike, NeedsO
 use crate::cases::Case;
 use crate::compare::same_word;
 use crate::completing::{Write, doing_with, operand_after};
-use crate::needed::{is_doing_masked, is_needed};
+use crate::needed::{is_doing_masked, is_idle, is_quiet};
 use bit_field::{Struck, flip_at_u8, flip_at_u32};
 use need_pass::NeedTable;
 use pipe_latch::{ExMem, IdEx, MemWb};
@@ -35,6 +35,8 @@ pub struct Facts {
     pub operation: Operation,
     /// Whether what ID/EX changes is known to be needed.
     pub needed: bool,
+    /// Whether it is known not to be.
+    pub idle: bool,
 }
 
 /// What is worked out once of ID/EX.
@@ -43,9 +45,11 @@ pub fn facts_of(arch: &Arch<'_>, needs: &NeedTable, case: &Case, d: &IdEx) -> Fa
     requires known { IsKnown needs.now case.now.first_after case.now.known }
     ensures { IsFacts needs.now arch.now d.now case.now result }
 {
+    let idle = is_idle(arch, needs, case);
     Facts {
         operation: operation_of(d.op),
-        needed: is_needed(arch, needs, case),
+        needed: !idle && is_quiet(case),
+        idle,
     }
 }
 
@@ -164,7 +168,7 @@ fn is_alike(
         Operation::Alu(kind) => is_value_alike(case, alu(kind, a, held)),
         _ => {
             let doing = doing_with(other, a, held, case.issued, arch.image());
-            is_doing_masked(arch, needs, case, facts.needed, &doing)
+            is_doing_masked(arch, needs, case, facts, &doing)
         }
     }
 }

@@ -12,9 +12,11 @@
 #![tactic(auto)]
 
 mod cases;
+mod codes;
 mod compare;
 mod completing;
 mod decoded;
+mod idle;
 mod inputs;
 mod latches;
 mod needed;
@@ -22,6 +24,7 @@ mod quick;
 mod stores;
 mod unread;
 mod values;
+mod ways;
 mod words;
 mod written;
 

@@ -10,13 +10,13 @@ use elf_load::Image;
 use pipe_latch::IdEx;
 use rv_table::{Action, BranchKind, LoadKind, StoreKind, holds, trap};
 
-/// What a branch does with operands a and b.
-pub fn branch_doing(d: &IdEx, kind: BranchKind, a: u32, b: u32) -> Doing
-    ensures { result ≡ spec.branch_doing d.now kind a b }
+/// What a branch does that is taken or not.
+pub fn way_doing(d: &IdEx, taken: bool) -> Doing
+    ensures { result ≡ spec.way_doing d.now taken }
 {
     let target = (4 * d.pc).wrapping_add(d.imm);
     let next = (d.pc + 1) % 0x4000_0000;
-    if !holds(kind, a, b) {
+    if !taken {
         Doing {
             action: Action::Writes { rd: 0, value: 0 },
             next,
@@ -32,6 +32,13 @@ pub fn branch_doing(d: &IdEx, kind: BranchKind, a: u32, b: u32) -> Doing
             next,
         }
     }
+}
+
+/// What a branch does with operands a and b.
+pub fn branch_doing(d: &IdEx, kind: BranchKind, a: u32, b: u32) -> Doing
+    ensures { result ≡ spec.branch_doing d.now kind a b }
+{
+    way_doing(d, holds(kind, a, b))
 }
 
 /// A load of a byte address, or its trap.

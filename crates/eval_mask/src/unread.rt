@@ -46,6 +46,23 @@ fn reads_immediate(operation: Operation) -> bool
     )
 }
 
+/// Whether the register that it names is one that it writes.
+pub fn writes_register(operation: Operation) -> bool
+    ensures { result ≡ spec.writes_register operation }
+{
+    matches!(
+        operation,
+        Operation::Lui
+            | Operation::Auipc
+            | Operation::Jal
+            | Operation::Jalr
+            | Operation::Load(_)
+            | Operation::AluImmediate(_)
+            | Operation::Alu(_)
+            | Operation::ReadCounter(_)
+    )
+}
+
 /// Whether EX/MEM, which writes `below`, or MEM/WB hands in the operand of register `rs`.
 fn is_forwarded(below: &Write, w: &MemWb, rs: u8) -> bool
     ensures { result ≡ spec.is_forwarded below.now w.now rs }
