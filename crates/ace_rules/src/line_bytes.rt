@@ -149,13 +149,14 @@ fn dirty_until(
     needs: &NeedTable,
     byte: u32,
     cycle: u32,
+    bound: u32,
 ) -> u32
     requires order { AreInOrder notes.now }
     requires instruction { asked.retired_by note.now ≤ needs.now.count }
     ensures { (j : ℕ) → j < 8 → IsDirtyDataUntil needs.now notes.now note.now quiet byte j cycle result }
 {
     if quiet <= cycle {
-        byte_dead_until(notes, note, needs, byte)
+        byte_dead_until(notes, note, needs, byte, bound)
     } else {
         quiet
     }
@@ -182,7 +183,7 @@ fn dirty_stay(
             rule: Rule::DeadData,
             mask: when(quiet <= cycle, dead_bits(note, needs, 0, byte)),
         },
-        until: change.min(dirty_until(notes, note, quiet, needs, byte, cycle)),
+        until: change.min(dirty_until(notes, note, quiet, needs, byte, cycle, change)),
     }
 }
 
