@@ -1,5 +1,5 @@
 // The counts of one structure by intervals: of each bit from one cycle in which its class may change to the next.
-ghost use Rattle.std.specs.Prelude.{◌≡◌, ◌<◌, ◌≤◌, ◌+◌, ◌^◌, ℕ, slice_index};
+ghost use Rattle.std.specs.Prelude.{◌<◌, ◌+◌, ◌^◌, ℕ, slice_index};
 ghost use Rattle.bit_field.specs.Shapes.{IsPlaceIn};
 ghost use Rattle.ace_count.specs.RunCounts.{HasClass, IsRowOf};
 ghost use Rattle.ace_rules.specs.Tallies.{IsAdded};

@@ -58,3 +58,4 @@ pub mod Pairs
 mod ByteBits
 mod ByteStays
 mod ByteRows
+mod SameNotes

@@ -1,7 +1,6 @@
 // The classes of the data bits of line slots byte by byte, and up to which cycle they stay.
-ghost use Rattle.std.specs.Prelude.{◌≡◌, ◌≤◌, ◌<◌, ◌*◌, ◌/◌, ◌%◌, ◌^◌, ◌&&◌, ℕ, [], ◌∷◌, Some, length, nat_le, slice_get, if◌then◌else◌};
-ghost use Rattle.bit_field.specs.Shapes.{IsShape, slots as slot_count};
-ghost use Rattle.line_life.specs.Lives.{next_in};
+ghost use Rattle.std.specs.Prelude.{◌≡◌, ◌≤◌, ◌<◌, ◌*◌, ◌/◌, ◌%◌, ◌&&◌, ℕ, [], ◌∷◌, Some, length, nat_le, slice_get, if◌then◌else◌};
+ghost use Rattle.bit_field.specs.Shapes.{slots as slot_count};
 ghost use Rattle.slot_history.specs.Histories.{held_in, next_change};
 ghost use Rattle.ace_class.specs.declared.class.Class.TheVariants.{Ace, UnAce};
 ghost use Rattle.ace_class.specs.declared.class.Rule.TheVariants.{CleanData, DeadData, EmptyPlace};

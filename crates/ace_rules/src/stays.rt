@@ -1,5 +1,5 @@
 // Up to which cycle the class of a bit stays, by what is kept of the run, where that is known at once.
-ghost use Rattle.std.specs.Prelude.{◌≡◌, ◌≤◌, ◌<◌, ◌*◌, ◌+◌, ◌/◌, ◌%◌, ◌^◌, Some, slice_get};
+ghost use Rattle.std.specs.Prelude.{◌≡◌, ◌≤◌, ◌<◌, ◌*◌, ◌+◌, ◌/◌, ◌%◌};
 ghost use Rattle.bit_field.specs.Shapes.{IsPlaceIn, IsShape, slots as slot_count, tag_bits as tag_width};
 ghost use Rattle.slot_history.specs.Histories.{held_in, next_change};
 ghost use Rattle.ace_rules.specs.Analyses.{IsSomeAnalysis};
