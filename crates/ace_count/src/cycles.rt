@@ -1,4 +1,4 @@
-// The counts of one structure cycle by cycle, where its bits change in most cycles.
+// The counts of one structure by cycles, where its bits change in many: of all its bits from one cycle with another note to the next.
 ghost use Rattle.ace_count.specs.RunCounts.{IsRowOf};
 
 use ace_class::CLASSES;
@@ -12,8 +12,9 @@ pub(crate) fn tally_by_cycles(a: &Analysis<'_>, structure: Structure) -> [u64; C
     a.recorded().is_record();
     let cycles = a.recorded().cycles();
     let mut row = [0; CLASSES];
-    for cycle in 0..cycles {
-        a.add_cycle(structure, cycle, &mut row);
+    let mut cycle = 0;
+    while cycle < cycles {
+        cycle = a.add_cycles(structure, cycle, &mut row);
     }
     row
 }

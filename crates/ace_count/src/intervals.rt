@@ -1,5 +1,5 @@
-// The counts of one structure by intervals: of each bit from one change of its class to the next.
-ghost use Rattle.std.specs.Prelude.{◌≡◌, ◌<◌, ◌≤◌, ◌+◌, ◌^◌, ℕ, slice_index};
+// The counts of one structure by intervals: of each bit from one cycle in which its class may change to the next.
+ghost use Rattle.std.specs.Prelude.{◌<◌, ◌+◌, ◌^◌, ℕ, slice_index};
 ghost use Rattle.bit_field.specs.Shapes.{IsPlaceIn};
 ghost use Rattle.ace_count.specs.RunCounts.{HasClass, IsRowOf};
 ghost use Rattle.ace_rules.specs.Tallies.{IsAdded};
@@ -18,7 +18,7 @@ fn add_bit(a: &Analysis<'_>, place: &Place, row: &mut [u64; CLASSES])
     let mut cycle = 0;
     while cycle < cycles {
         let class = a.class_of(place, cycle);
-        let until = a.same_until(place, cycle);
+        let until = a.idle_until(place, cycle);
         row[usize::from(class.number())] += u64::from(until - cycle);
         cycle = until;
     }

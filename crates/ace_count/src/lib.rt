@@ -1,8 +1,8 @@
 // How many pairs of a bit and a cycle of a recorded run have each class.
 //
-// - intervals: the counts of one structure, bit by bit, from one change of its class to the next;
+// - intervals: the counts of one structure, bit by bit, from one cycle in which its class may change to the next;
 // - bytes: those of the cache's data, byte by byte;
-// - cycles: the same cycle by cycle, for structures that change in most cycles;
+// - cycles: those of one structure cycle by cycle, where it changes in most cycles;
 // - run_counts: the counts of all structures.
 #![tactic(auto)]
 

@@ -1,5 +1,5 @@
 -- What is known where all this is kept of some run: sizes, and that ever more instructions have left the memory stage.
-use Rattle.std.proofs.Common.{◌≡◌, ◌≤◌, ◌<◌, zero, suc, ℕ, List, [], ◌∷◌, Some, length, slice_get, arith, refl, sym, ap, subst, ◌∙◌}
+use Rattle.std.proofs.Common.{◌≡◌, ◌≤◌, ◌<◌, ◌-◌, zero, suc, ℕ, List, [], ◌∷◌, Some, length, slice_get, arith, refl, sym, ap, subst, ◌∙◌}
 use Rattle.std.specs.Prelude.{slice_index_or}
 use Rattle.bit_field.specs.Shapes.{IsShape, slots as slot_count}
 use Rattle.line_life.specs.Lives.{Lives}
@@ -11,9 +11,10 @@ use Rattle.ace_law.specs.Moments.{retired}
 use Rattle.ace_rules.specs.Analyses.{IsAnalysis, IsSomeAnalysis}
 use Rattle.ace_rules.specs.Asked.{IsLineHeld, retired_by}
 use Rattle.ace_rules.specs.Notes.{Story, moment}
-use Rattle.ace_rules.specs.Stays.{AreInOrder, no_cycle}
+use Rattle.ace_rules.specs.Stays.{AreInOrder, IsBeforePast, no_cycle}
 use Rattle.ace_rules.specs.declared.note.Note.{Note}
 use Rattle.ace_rules.proofs.HeldLines.{held-below, held-in}
+use Rattle.ace_rules.proofs.LineDataClass.{get-within}
 use Rattle.ace_rules.proofs.Retiring.{retired-rises}
 use Rattle.ace_rules.proofs.Unneeded.{counted, retired-is}
 
@@ -21,6 +22,20 @@ pub note-at : (notes : List Note) (t : ℕ) (d : Note) → t < length notes → 
 note-at [] t d l = absurd (omega (arith, l))
 note-at (x ∷ notes) zero d l = refl
 note-at (x ∷ notes) (suc t) d l = note-at notes t d (omega (arith, l))
+
+-- where in the cycle before it no more instructions have left the memory stage, none have in the cycles before that
+pub before-bound : (notes : List Note) → AreInOrder notes → (instruction bound : ℕ) (last : Note) → slice_get notes (bound - 1) ≡ Some last
+    → retired_by last ≤ instruction → IsBeforePast notes (Some instruction) bound
+before-bound notes order instruction bound last at low t note below get =
+    let inside = get-within notes (bound - 1) last at in
+    let rises = order.rising t (bound - 1) note (omega (arith, below)) inside in
+    let here = note-at notes t note (omega (arith, below, inside)) in
+    let there = note-at notes (bound - 1) note inside in
+    let e : slice_index_or notes t note ≡ note = cc in
+    let f : slice_index_or notes (bound - 1) note ≡ last = cc in
+    let a = ap retired_by e in
+    let b = ap retired_by f in
+    omega (arith, rises, a, b, low)
 
 module _ (story : Story) (table : Needs) (notes : List Note) (words : List ℕ) (quiet : ℕ) (life : Lives) (tags : Tables) (slots : Histories)
     (kept : IsAnalysis story table notes words quiet life tags slots) where

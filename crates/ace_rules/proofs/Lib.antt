@@ -60,3 +60,4 @@ pub mod Pairs
 mod ByteBits
 mod ByteStays
 mod ByteRows
+mod SameNotes

@@ -1,18 +1,20 @@
 -- Rows of counts that grow by pairs of a bit and a cycle.
-use Rattle.std.proofs.Common.{◌≡◌, ℕ, ◌+◌, ◌-◌, ◌*◌, ◌<◌, ◌≤◌, ◌==◌, List, length, refl, ap, ◌∙◌, subst, inl, inr, arith}
+use Rattle.std.proofs.Common.{◌≡◌, ℕ, zero, suc, ◌+◌, ◌-◌, ◌*◌, ◌<◌, ◌≤◌, ◌==◌, List, [], ◌∷◌, length, refl, sym, ap, ◌∙◌, subst, inl, inr, arith}
 use Rattle.std.specs.Prelude.{slice_index}
+use Rattle.std.proofs.Math.Nat.{suc-mul}
 use Rattle.std.proofs.lemmas.Bool.{cases_lt}
 use Rattle.bit_field.specs.Layouts.{number_of}
 use Rattle.ace_class.specs.Classes.{class_number}
 use Rattle.ace_class.specs.declared.class.Class.{Class}
 use Rattle.ace_class.specs.declared.class.Class.TheVariants.{Ace}
+use Rattle.ace_class.specs.declared.class.TheConstants.{CLASSES}
 use Rattle.ace_rules.specs.RuleMasks.{first_of}
 use Rattle.ace_rules.specs.Sums.{count_below, count_pairs, sum_below}
-use Rattle.ace_rules.specs.Tallies.{ArePairsAdded, IsTally}
+use Rattle.ace_rules.specs.Tallies.{ArePairsAdded, IsAdded, IsTally}
 use Rattle.ace_rules.specs.declared.tally.RuleMask.{RuleMask}
 use Rattle.ace_rules.proofs.FirstMasks.{sum_below-mul}
 use Rattle.ace_rules.proofs.Sums.{sum_below-add, sum_below-const, sum_below-same, sum_below-split}
-use Rattle.ace_rules.proofs.Tallies.{joined, joined-back, joined-front, pairs-le}
+use Rattle.ace_rules.proofs.Tallies.{joined, joined-back, joined-front, pairs-le, tally-next_cycle, tally-no_cycles}
 
 -- no cycle yet
 pub pairs-start : (Has : ℕ → ℕ → Class → Type 0) (bits : ℕ) (row : List ℕ) → ArePairsAdded Has bits 0 row row
@@ -48,6 +50,25 @@ later-counts f g bits m more n =
 pub pairs-later : (Has : ℕ → ℕ → Class → Type 0) (bits m more : ℕ) (old between row : List ℕ) → ArePairsAdded Has bits m old between
     → ArePairsAdded (λ k t. Has k (m + t)) bits more between row → ArePairsAdded Has bits (m + more) old row
 pairs-later Has bits m more old between row h next = record {
+  classes = λ k. joined m (h.classes k) (next.classes k);
+  are = λ k t l b. elim (cases_lt t m) [
+    | inl front ↦ rw (joined-front m (h.classes k) (next.classes k) t front) (h.are k t l front)
+    | inr behind ↦
+        let e : m + (t - m) ≡ t = omega (arith, behind) in
+        subst (λ (i : ℕ). Has k i (joined m (h.classes k) (next.classes k) i)) e
+        (rw (joined-back m (h.classes k) (next.classes k) (t - m)) (next.are k (t - m) l (omega (arith, behind, b))))
+  ];
+  full = next.full ∙ h.full;
+  counts = λ n.
+      let a = h.counts n in
+      let b = next.counts n in
+      let s = later-counts h.classes next.classes bits m more n in
+      omega (arith, a, b, s);
+}
+
+pub tally-later : (Has : ℕ → ℕ → Class → Type 0) (bits m more : ℕ) (old row : List ℕ) → IsTally Has bits m old
+    → ArePairsAdded (λ k t. Has k (m + t)) bits more old row → IsTally Has bits (m + more) row
+tally-later Has bits m more old row h next = record {
   classes = λ k. joined m (h.classes k) (next.classes k);
   are = λ k t l b. elim (cases_lt t m) [
     | inl front ↦ rw (joined-front m (h.classes k) (next.classes k) t front) (h.are k t l front)
@@ -109,3 +130,58 @@ pairs-kept Has masks bits times old row full counts are = record {
       let s = kept-counts bits times (λ k. number_of (class_number (first_of masks k) == n)) in
       omega (arith, c, s);
 }
+
+-- ---- the same row in each cycle
+
+-- a row so many times
+scaled : ℕ → List ℕ → List ℕ
+scaled t [] = []
+scaled t (x ∷ xs) = t * x ∷ scaled t xs
+
+scaled-length : (t : ℕ) (xs : List ℕ) → length (scaled t xs) ≡ length xs
+unfolding scaled
+scaled-length t [] = refl
+scaled-length t (x ∷ xs) = ap suc (scaled-length t xs)
+
+scaled-at : (t : ℕ) (xs : List ℕ) (n : ℕ) → slice_index (scaled t xs) n ≡ t * slice_index xs n
+unfolding scaled
+scaled-at t [] n = omega arith
+scaled-at t (x ∷ xs) zero = refl
+scaled-at t (x ∷ xs) (suc n) = scaled-at t xs n
+
+module _ (Has : ℕ → ℕ → Class → Type 0) (bits : ℕ) (start one : List ℕ) (full : length start ≡ CLASSES) (none : (n : ℕ) → slice_index start n ≡ 0) where
+  tallied : (times : ℕ) → ((t : ℕ) → t < times → IsAdded (λ k. Has k t) bits start one) → length one ≡ CLASSES → IsTally Has bits times (scaled times one)
+  tallied zero each all =
+      tally-no_cycles Has bits (scaled 0 one) (scaled-length 0 one ∙ all) (λ n. let s = scaled-at 0 one n in omega (arith, s))
+  tallied (suc times) each all =
+      let more = each times (omega arith) in
+      let e : times + 1 ≡ suc times = omega arith in
+      subst (λ (m : ℕ). IsTally Has bits m (scaled (suc times) one)) e
+      (tally-next_cycle Has bits times (scaled times one) (scaled (suc times) one) (tallied times (λ t l. each t (omega (arith, l))) all)
+      (record {
+        classes = more.classes;
+        are = more.are;
+        full = scaled-length (suc times) one ∙ sym (scaled-length times one);
+        counts = λ n.
+            let a = scaled-at times one n in
+            let b = scaled-at (suc times) one n in
+            let c = more.counts n in
+            let z = none n in
+            let m : suc times * slice_index one n ≡ times * slice_index one n + slice_index one n = suc-mul times (slice_index one n) in
+            omega (arith, a, b, c, z, m);
+      }))
+
+  pub pairs-each : (times : ℕ) (old row : List ℕ) → ((t : ℕ) → t < times → IsAdded (λ k. Has k t) bits start one) → length one ≡ CLASSES
+      → length row ≡ length old → ((n : ℕ) → slice_index row n ≡ slice_index old n + times * slice_index one n) → ArePairsAdded Has bits times old row
+  pairs-each times old row each all same counts =
+      let h = tallied times each all in
+      record {
+        classes = h.classes;
+        are = h.are;
+        full = same;
+        counts = λ n.
+            let a = counts n in
+            let b = h.counts n in
+            let s = scaled-at times one n in
+            omega (arith, a, b, s);
+      }

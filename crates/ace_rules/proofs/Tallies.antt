@@ -176,7 +176,7 @@ added-all Has class count same old i by is within all = record {
 
 -- ---- bits or cycles one by one
 
-zeros : (m n : ℕ) → slice_index (replicate m 0) n ≡ 0
+pub zeros : (m n : ℕ) → slice_index (replicate m 0) n ≡ 0
 zeros zero n = refl
 zeros (suc m) zero = refl
 zeros (suc m) (suc n) = zeros m n
@@ -265,13 +265,14 @@ tally-most Has bits cycles row h n = rw (h.counts n) (pairs-le bits cycles (λ k
 pub tally-none_yet : (Has : ℕ → ℕ → Class → Type 0) (bits : ℕ) → IsTally Has bits 0 (replicate CLASSES 0)
 tally-none_yet Has bits = tally-no_cycles Has bits (replicate CLASSES 0) refl (zeros CLASSES)
 
--- with room for one cycle more
-pub tally-room_for_bits : (Has : ℕ → ℕ → Class → Type 0) (bits cycle : ℕ) (row : List ℕ) → IsTally Has bits cycle row → bits ≤ 65536
-    → cycle ≤ 1000000 → (n : ℕ) → slice_index row n + bits < 2 ^ 64
-tally-room_for_bits Has bits cycle row h few short n =
+-- with room for the cycles that are left
+pub tally-room_for_cycles : (Has : ℕ → ℕ → Class → Type 0) (bits cycle cycles : ℕ) (row : List ℕ) → IsTally Has bits cycle row → bits ≤ 65536
+    → cycle ≤ cycles → cycles ≤ 1000000 → (n : ℕ) → slice_index row n + bits * (cycles - cycle) < 2 ^ 64
+tally-room_for_cycles Has bits cycle cycles row h few within short n =
     let m = tally-most Has bits cycle row h n in
-    let p = mul-le bits cycle 65536 1000000 few short in
-    omega (arith, m, p)
+    let p = mul-le bits cycle 65536 cycles few within in
+    let q = mul-le bits (cycles - cycle) 65536 cycles few (omega arith) in
+    omega (arith, m, p, q, short)
 
 -- with room for one bit more
 pub tally-room : (Has : ℕ → ℕ → Class → Type 0) (bit cycles : ℕ) (row : List ℕ) → IsTally Has bit cycles row → bit < 2 ^ 32 → cycles ≤ 1000000

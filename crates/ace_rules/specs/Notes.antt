@@ -98,6 +98,12 @@ pub record IsSomeMoment (table : Needs) (note : Note) (quiet : Bool) : Type 0 wh
   pub a : Moment
   pub known : IsKnown a table note quiet
 
+-- and the run is of this image
+pub record IsSomeMomentOf (table : Needs) (note : Note) (quiet : Bool) (image : LoadedImage) : Type 0 where
+  pub a : Moment
+  pub known : IsKnown a table note quiet
+  pub same : image ≡ a.r.image
+
 -- this is the class of bit k of a structure, whatever moment the note is of
 abbrev pub IsNotedClass : Class → Note → Bool → Structure → ℕ → Type 0
 IsNotedClass class note quiet s k =

@@ -6,7 +6,7 @@
 // - analysis: a recorded run with all that is kept of it;
 // - first_rule: the class of a bit by the first of the rules that holds;
 // - timing, registers, next, latches, fetched: the classes of the pipeline's bits;
-// - classes: the class of any bit; until, stays: how long a bit keeps its class;
+// - classes: the class of any bit; until, stays: how long a bit keeps its class; still: how long a note stays;
 // - later: what instructions that haven't left the memory stage need and access; progress: how long they do;
 // - pending: the classes of the bits of the store buffer;
 // - lines, line_data: the classes of the bits of line slots; line_bytes: those of the data byte by byte, and how long they stay;
@@ -15,6 +15,8 @@
 //   byte in a stretch of cycles.
 //   tally_pending: the masks of each structure; tally_cycle: all bits of a structure in a cycle;
 // - ace_groups: how many bits of a register, or of a byte of the cache, are ACE.
+//   tally_pending, tally_target: the masks of each structure; tally_cycle: all bits of a structure while the note stays;
+//   tally_bytes: the data bits of a byte in a stretch of cycles.
 #![tactic(auto)]
 
 mod ace_groups;
@@ -35,6 +37,7 @@ mod progress;
 mod registers;
 mod situation;
 mod stays;
+mod still;
 mod tally;
 mod tally_bytes;
 mod tally_cycle;

@@ -1,7 +1,6 @@
 // The classes of the data bits of line slots byte by byte, and up to which cycle they stay.
-ghost use Rattle.std.specs.Prelude.{◌≡◌, ◌≤◌, ◌<◌, ◌*◌, ◌/◌, ◌%◌, ◌^◌, ◌&&◌, ℕ, [], ◌∷◌, Some, length, nat_le, slice_get, if◌then◌else◌};
-ghost use Rattle.bit_field.specs.Shapes.{IsShape, slots as slot_count};
-ghost use Rattle.line_life.specs.Lives.{next_in};
+ghost use Rattle.std.specs.Prelude.{◌≡◌, ◌≤◌, ◌<◌, ◌*◌, ◌/◌, ◌%◌, ◌&&◌, ℕ, [], ◌∷◌, Some, length, nat_le, slice_get, if◌then◌else◌};
+ghost use Rattle.bit_field.specs.Shapes.{slots as slot_count};
 ghost use Rattle.slot_history.specs.Histories.{held_in, next_change};
 ghost use Rattle.ace_class.specs.declared.class.Class.TheVariants.{Ace, UnAce};
 ghost use Rattle.ace_class.specs.declared.class.Rule.TheVariants.{CleanData, DeadData, EmptyPlace};
@@ -149,13 +148,14 @@ fn dirty_until(
     needs: &NeedTable,
     byte: u32,
     cycle: u32,
+    bound: u32,
 ) -> u32
     requires order { AreInOrder notes.now }
     requires instruction { asked.retired_by note.now ≤ needs.now.count }
     ensures { (j : ℕ) → j < 8 → IsDirtyDataUntil needs.now notes.now note.now quiet byte j cycle result }
 {
     if quiet <= cycle {
-        byte_dead_until(notes, note, needs, byte)
+        byte_dead_until(notes, note, needs, byte, bound)
     } else {
         quiet
     }
@@ -182,7 +182,7 @@ fn dirty_stay(
             rule: Rule::DeadData,
             mask: when(quiet <= cycle, dead_bits(note, needs, 0, byte)),
         },
-        until: change.min(dirty_until(notes, note, quiet, needs, byte, cycle)),
+        until: change.min(dirty_until(notes, note, quiet, needs, byte, cycle, change)),
     }
 }
 

@@ -1,5 +1,5 @@
 // Up to which cycle the class of a bit stays, by what is kept of the run, where that is known at once.
-ghost use Rattle.std.specs.Prelude.{◌≡◌, ◌≤◌, ◌<◌, ◌*◌, ◌+◌, ◌/◌, ◌%◌, ◌^◌, Some, slice_get};
+ghost use Rattle.std.specs.Prelude.{◌≡◌, ◌≤◌, ◌<◌, ◌*◌, ◌+◌, ◌/◌, ◌%◌};
 ghost use Rattle.bit_field.specs.Shapes.{IsPlaceIn, IsShape, slots as slot_count, tag_bits as tag_width};
 ghost use Rattle.slot_history.specs.Histories.{held_in, next_change};
 ghost use Rattle.ace_rules.specs.Analyses.{IsSomeAnalysis};
@@ -56,6 +56,7 @@ fn dirty_data_until(
     byte: u32,
     bit: u32,
     cycle: u32,
+    bound: u32,
 ) -> u32
     requires order { AreInOrder notes.now }
     requires instruction { asked.retired_by note.now ≤ needs.now.count }
@@ -63,7 +64,7 @@ fn dirty_data_until(
     ensures { IsDirtyDataUntil needs.now notes.now note.now first_quiet byte bit cycle result }
 {
     if first_quiet <= cycle {
-        dead_until(notes, note, needs, byte, bit)
+        dead_until(notes, note, needs, byte, bit, bound)
     } else {
         first_quiet
     }
@@ -77,11 +78,12 @@ fn unaccessed_until(
     tags: &TagTable,
     line: u32,
     cycle: u32,
+    bound: u32,
 ) -> u32
     requires { AreInOrder notes.now }
     ensures { StaysUnaccessed tags.now notes.now note.now first_quiet line cycle result }
 {
-    quiet_until(first_quiet, cycle).min(accessed_until(notes, note, tags, line))
+    quiet_until(first_quiet, cycle).min(accessed_until(notes, note, tags, line, bound))
 }
 
 /// Up to which cycle the class of a data bit stays, by what its slot holds up to cycle `change`.
@@ -119,6 +121,7 @@ fn data_until(
                 16 * line + offset,
                 bit % 8,
                 cycle,
+                change,
             ))
         }
     }
@@ -135,6 +138,7 @@ fn clean_tag_until(
     line: u32,
     near: u32,
     cycle: u32,
+    change: u32,
 ) -> u32
     requires order { AreInOrder notes.now }
     requires shape { IsShape shape.now }
@@ -145,7 +149,7 @@ fn clean_tag_until(
     if first_quiet <= cycle && !is_accessed_again(note, tags, near) {
         NO_CYCLE
     } else {
-        unaccessed_until(notes, note, first_quiet, tags, near, cycle)
+        unaccessed_until(notes, note, first_quiet, tags, near, cycle, change)
             .min(looked_up_until(tags, shape, slot, line, cycle))
             .min(looked_up_until(tags, shape, slot, near, cycle))
     }
@@ -186,13 +190,14 @@ fn tag_until(
                 line,
                 near,
                 cycle,
+                change,
             ))
         }
         Held::Dirty(line) => {
             let near = distance_one(shape, line, place);
             change
-                .min(unaccessed_until(notes, note, first_quiet, tags, line, cycle))
-                .min(unaccessed_until(notes, note, first_quiet, tags, near, cycle))
+                .min(unaccessed_until(notes, note, first_quiet, tags, line, cycle, change))
+                .min(unaccessed_until(notes, note, first_quiet, tags, near, cycle, change))
         }
     }
 }
@@ -221,6 +226,7 @@ fn valid_until(
             tags,
             slot / u32::from(shape.ways),
             cycle,
+            change,
         )),
         Held::Clean(_) => change.min(quiet_until(first_quiet, cycle)),
         Held::Dirty(line) => change.min(unaccessed_until(
@@ -230,6 +236,7 @@ fn valid_until(
             tags,
             line,
             cycle,
+            change,
         )),
     }
 }
@@ -257,6 +264,7 @@ fn dirty_until(
             tags,
             line,
             cycle,
+            change,
         )),
     }
 }

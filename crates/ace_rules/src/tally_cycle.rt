@@ -1,25 +1,31 @@
 // How many bits of a structure have each class in a cycle.
-ghost use Rattle.std.specs.Prelude.{◌≡◌, ◌+◌, ◌^◌, ◌<◌, ◌≤◌, ℕ, if◌then◌else◌, slice_index};
+ghost use Rattle.std.specs.Prelude.{◌≡◌, ◌+◌, ◌-◌, ◌*◌, ◌^◌, ◌<◌, ◌≤◌, ℕ, length, slice_index};
 ghost use Rattle.bit_field.specs.Shapes.{bits_in};
-ghost use Rattle.bit_field.specs.declared.places.Structure.TheVariants as structure;
-ghost use Rattle.bit_field.specs.declared.shapes.TheConstants.{SB_BITS};
-ghost use Rattle.ace_class.specs.declared.class.Class.TheVariants.{UnAce};
-ghost use Rattle.ace_class.specs.declared.class.Rule.TheVariants.{EmptyPlace};
 ghost use Rattle.ace_rules.specs.Notes.{moment};
-ghost use Rattle.ace_rules.specs.Tallies.{HasClass, IsAdded};
+ghost use Rattle.ace_rules.specs.Tallies.{ArePairsAdded, HasClass, IsAdded};
 
 use crate::analysis::Analysis;
 use crate::classes::note_at;
 use crate::note::Note;
+use crate::still::still_until;
 use crate::tally_decoded::add_decoded;
 use crate::tally_fetched::add_fetched;
 use crate::tally_latches::{add_executed, add_result};
-use crate::tally_pending::add_value;
+use crate::tally_pending::add_pending;
 use crate::tally_registers::add_registers;
-use crate::tally_target::add_target;
-use ace_class::{CLASSES, Rule};
+use ace_class::CLASSES;
 use bit_field::{Place, Structure, bits_in};
-use store_buf::PENDING_BITS;
+
+/// Adds a row, so many times, to another.
+fn add_row(more: &[u64; CLASSES], times: u32, row: &mut [u64; CLASSES])
+    requires { (n : ℕ) → slice_index row.old n + times * slice_index more.now n < 2 ^ 64 }
+    ensures full { length row.new ≡ length row.old }
+    ensures counts { (n : ℕ) → slice_index row.new n ≡ slice_index row.old n + times * slice_index more.now n }
+{
+    for class in 0..CLASSES {
+        row[class] += u64::from(times) * more[class];
+    }
+}
 
 impl Analysis<'_> {
     /// Adds to a row the bits of a structure in a stretch, one by one.
@@ -58,38 +64,49 @@ impl Analysis<'_> {
         self.add_stretch(structure, cycle, 0, bits_in(structure, &shape), row);
     }
 
-    /// Adds to a row the bits of the store buffer: of each slot first those that say where it writes, and then its value.
-    fn add_pending(&self, cycle: u32, row: &mut [u64; CLASSES])
-        requires cycle { cycle < self.now.r.cycles }
-        requires room { (n : ℕ) → slice_index row.old n + SB_BITS < 2 ^ 64 }
-        ensures { IsAdded (HasClass (moment self.now cycle) structure.Sb) SB_BITS row.old row.new }
-    {
-        let note = note_at(&self.notes, cycle);
-        let quiet = self.quiet <= cycle;
-        for slot in 0..store_buf::SLOTS as u32 {
-            add_target(note, &self.needs, self.recorded.image(), quiet, slot, row);
-            add_value(note, &self.needs, quiet, slot, row);
-        }
-    }
-
-    /// Adds to a row, whose numbers have room for that, how many bits of a structure have each class in a cycle of the run. It takes no memory.
-    pub fn add_cycle(&self, structure: Structure, cycle: u32, row: &mut [u64; CLASSES])
+    /// Adds to a row how many bits of a structure have each class in a cycle. The result is a cycle above it, at most the number of cycles, up to
+    /// before which the bits keep their classes: where the note says all that they go by, up to the next cycle that has another one.
+    fn add_here(&self, structure: Structure, cycle: u32, row: &mut [u64; CLASSES]) -> u32
         requires cycle { cycle < self.now.r.cycles }
         requires room { (n : ℕ) → slice_index row.old n + bits_in structure self.now.r.shape < 2 ^ 64 }
-        ensures { IsAdded (HasClass (moment self.now cycle) structure) (bits_in structure self.now.r.shape) row.old row.new }
+        ensures after { cycle < result }
+        ensures within { result ≤ self.now.r.cycles }
+        ensures added { (t : ℕ) → cycle ≤ t → t < result → IsAdded (HasClass (moment self.now t) structure) (bits_in structure self.now.r.shape) row.old row.new }
     {
         let notes: &[Note] = &self.notes;
         let words: &[u32] = &self.words;
+        let needs = &self.needs;
         let note = note_at(notes, cycle);
         let quiet = self.quiet <= cycle;
+        let until = still_until(notes, self.quiet, cycle);
         match structure {
             Structure::IdEx => add_decoded(note, quiet, row),
             Structure::ExMem => add_executed(note, quiet, row),
             Structure::MemWb => add_result(note, quiet, row),
-            Structure::Rf => add_registers(note, &self.needs, quiet, row),
+            Structure::Rf => add_registers(note, needs, quiet, row),
             Structure::Ib => add_fetched(note, words, quiet, row),
-            Structure::Sb => self.add_pending(cycle, row),
-            _ => self.add_bits(structure, cycle, row),
+            Structure::Sb => add_pending(note, needs, self.recorded.image(), quiet, row),
+            _ => {
+                self.add_bits(structure, cycle, row);
+                return cycle + 1;
+            }
         }
+        until
+    }
+
+    /// Adds to a row, whose numbers have room for that, how many pairs of a bit of a structure and a cycle have each class, in the cycles from
+    /// `cycle` up to before the result: in these each bit keeps its class. The result is above `cycle`, at most the number of cycles of the run.
+    /// It takes no memory.
+    pub fn add_cycles(&self, structure: Structure, cycle: u32, row: &mut [u64; CLASSES]) -> u32
+        requires cycle { cycle < self.now.r.cycles }
+        requires room { (n : ℕ) → slice_index row.old n + bits_in structure self.now.r.shape * (self.now.r.cycles - cycle) < 2 ^ 64 }
+        ensures after { cycle < result }
+        ensures within { result ≤ self.now.r.cycles }
+        ensures added { ArePairsAdded (λ k t. HasClass (moment self.now (cycle + t)) structure k) (bits_in structure self.now.r.shape) (result - cycle) row.old row.new }
+    {
+        let mut here = [0; CLASSES];
+        let until = self.add_here(structure, cycle, &mut here);
+        add_row(&here, until - cycle, row);
+        until
     }
 }

@@ -1,14 +1,15 @@
-// How many bits of the value of a pending store have each class in a cycle.
+// How many bits of the store buffer have each class in a cycle: those of the values of its stores, and all.
 ghost use Rattle.std.specs.Prelude.{◌≡◌, ◌+◌, ◌*◌, ◌^◌, ◌<◌, ◌≤◌, ◌&&◌, ℕ, slice_index};
 ghost use Rattle.bit_field.specs.declared.places.Structure.TheVariants as structure;
 ghost use Rattle.bit_field.specs.Lanes.{has_lane};
+ghost use Rattle.bit_field.specs.declared.shapes.TheConstants.{SB_BITS};
 ghost use Rattle.elf_load.specs.Image.{LoadedImage};
 ghost use Rattle.store_buf.specs.declared.buffer.TheConstants.{SLOTS};
 ghost use Rattle.store_buf.specs.declared.pending.PendingField.TheVariants as field;
 ghost use Rattle.store_buf.specs.declared.pending.TheConstants.{PENDING_BITS};
 ghost use Rattle.ace_law.specs.Moments.{Moment};
 ghost use Rattle.ace_rules.specs.Asked as asked;
-ghost use Rattle.ace_rules.specs.Notes.{IsKnown, IsSomeMoment};
+ghost use Rattle.ace_rules.specs.Notes.{IsKnown, IsSomeMoment, IsSomeMomentOf};
 ghost use Rattle.ace_rules.specs.RuleMasks.{first_of, is_set};
 ghost use Rattle.ace_rules.specs.Tallies.{HasClass, IsAdded};
 
@@ -16,8 +17,10 @@ use crate::later::retired;
 use crate::note::Note;
 use crate::pending::is_pending_from;
 use crate::tally::{RuleMask, add_firsts, when, without};
+use crate::tally_target::add_target;
 use ace_class::{CLASSES, Rule};
 use bit_field::has_lane;
+use elf_load::Image;
 use need_pass::NeedTable;
 use store_buf::{Pending, SLOTS};
 
@@ -89,5 +92,23 @@ pub(crate) fn add_value(
 {
     for lane in 0..4 {
         add_firsts(&byte_masks(note, needs, quiet, slot, lane), 8, row);
+    }
+}
+
+/// Adds to a row how many bits of the store buffer have each class.
+pub(crate) fn add_pending(
+    note: &Note,
+    needs: &NeedTable,
+    image: &Image,
+    quiet: bool,
+    row: &mut [u64; CLASSES],
+)
+    requires some { IsSomeMomentOf needs.now note.now quiet image.now }
+    requires room { (n : ℕ) → slice_index row.old n + SB_BITS < 2 ^ 64 }
+    ensures { (a : Moment) → IsKnown a needs.now note.now quiet → image.now ≡ a.r.image → IsAdded (HasClass a structure.Sb) SB_BITS row.old row.new }
+{
+    for slot in 0..SLOTS as u32 {
+        add_target(note, needs, image, quiet, slot, row);
+        add_value(note, needs, quiet, slot, row);
     }
 }

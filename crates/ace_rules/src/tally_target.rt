@@ -1,7 +1,6 @@
 // How many bits of where a pending store writes have each class in a cycle.
 ghost use Rattle.std.specs.Prelude.{◌≡◌, ◌+◌, ◌*◌, ◌^◌, ◌<◌, ◌≤◌, ◌==◌, ◌&&◌, not, false, ℕ, slice_index};
 ghost use Rattle.bit_field.specs.declared.places.Structure.TheVariants as structure;
-ghost use Rattle.store_buf.specs.EntryBits as sb;
 ghost use Rattle.store_buf.specs.Pending.{slot_of};
 ghost use Rattle.store_buf.specs.declared.buffer.TheConstants.{SLOTS};
 ghost use Rattle.store_buf.specs.declared.pending.PendingField.TheVariants as field;

@@ -11,6 +11,9 @@ impl Analysis<'_> {
 
     /// A cycle above `cycle`, at most the number of cycles, up to before which the class of the bit surely stays.
     pub(crate) fn idle_until(&self, place: &Place, cycle: u32) -> u32
+    /// A cycle above `cycle`, at most the number of cycles of the run, up to before which the class of the bit at a place surely stays. It takes
+    /// no memory.
+    pub fn idle_until(&self, place: &Place, cycle: u32) -> u32
         requires place { IsPlaceIn self.now.r.shape place.now }
         requires cycle { cycle < self.now.r.cycles }
         ensures after { cycle < result }

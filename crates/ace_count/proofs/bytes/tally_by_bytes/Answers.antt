@@ -1,4 +1,4 @@
-use Rattle.std.proofs.Common.{◌≡◌, ◌≤◌, ◌+◌, ◌*◌, ℕ, ap, subst, ◌∙◌, arith}
+use Rattle.std.proofs.Common.{◌≡◌, ◌≤◌, ◌*◌, ℕ, ap, subst, ◌∙◌, arith}
 use Rattle.bit_field.specs.Shapes.{bits_in}
 use Rattle.bit_field.specs.declared.places.Structure.TheVariants.{CData}
 use Rattle.run_record.specs.Run.{RecordedRun}

@@ -1,4 +1,5 @@
-use Rattle.std.proofs.Common.{◌≡◌, ap, arith}
+use Rattle.std.proofs.Common.{◌≡◌, ap, arith, inl, inr}
+use Rattle.std.proofs.lemmas.Bool.{cases_order}
 use Rattle.run_record.specs.Run.{RecordedRun}
 use Rattle.ace_count.specs.RunCounts.{HasClass}
 use Rattle.ace_count.proofs.BitClasses.{one_each}
@@ -25,11 +26,18 @@ loop-cycle-preserved c =
     let cycles : c.recorded.result.now.cycles ≡ c.args.a.now.r.cycles = ap (λ (r : RecordedRun). r.cycles) c.recorded.ensures in
     let full = c.loop-cycle.invariant.added.full in
     let most = number-most c.class_of-class.result in
+    let after = c.idle_until-until.ensures.after in
+    let below = c.idle_until-until.ensures.within in
     record {
-      within = omega (arith, cycles);
+      within = omega (arith, below, cycles);
       added =
           added-on (HasClass c.args.a.now bit.structure bit.bit) (one_each c.args.a.now bit.structure bit.bit) c.loop-cycle.cycle
-          c.same_until-until.result c.args.row.now c.loop-cycle.row c.loop-cycle.invariant.added c.class_of-class.result
-          c.same_until-until.ensures.after c.class_of-class.ensures.class c.same_until-until.ensures.same.class
-          c.same_until-until.ensures.same.is c.from-in-loop-cycle.result c.from.result (omega arith) (omega (arith, full, most)) (omega arith);
+          c.idle_until-until.result c.args.row.now c.loop-cycle.row c.loop-cycle.invariant.added c.class_of-class.result after
+          c.class_of-class.ensures.class c.class_of-class.result
+          (λ t l before. elim (cases_order t c.loop-cycle.cycle) [
+            | inl same ↦ rw same c.class_of-class.ensures.class
+            | inr (inl earlier) ↦ absurd (omega (arith, earlier, l))
+            | inr (inr later) ↦ c.idle_until-until.ensures.stays c.class_of-class.result t later before (omega (arith, before, below))
+                c.class_of-class.ensures.class
+          ]) c.from-in-loop-cycle.result c.from.result (omega arith) (omega (arith, full, most)) (omega arith);
     }
