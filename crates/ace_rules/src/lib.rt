@@ -11,12 +11,9 @@
 // - pending: the classes of the bits of the store buffer;
 // - lines, line_data: the classes of the bits of line slots; line_bytes: those of the data byte by byte, and how long they stay;
 // - tally: how many bits have each class, by masks of the rules; tally_latches, tally_decoded, tally_fetched, tally_registers,
-//   tally_pending, tally_target: the masks of each structure; tally_cycle: all bits of a structure in a cycle; tally_bytes: the data bits of a
-//   byte in a stretch of cycles.
-//   tally_pending: the masks of each structure; tally_cycle: all bits of a structure in a cycle;
-// - ace_groups: how many bits of a register, or of a byte of the cache, are ACE.
 //   tally_pending, tally_target: the masks of each structure; tally_cycle: all bits of a structure while the note stays;
-//   tally_bytes: the data bits of a byte in a stretch of cycles.
+//   tally_bytes: the data bits of a byte in a stretch of cycles;
+// - ace_groups: how many bits of a register, or of a byte of the cache, are ACE.
 #![tactic(auto)]
 
 mod ace_groups;
