@@ -23,6 +23,7 @@ mod NotedTests
 mod RegisterClasses
 mod RegisterMarks
 mod RegisterAces
+mod LeftBits
 mod GroupAces
 mod TimingClasses
 mod LatchClasses

@@ -1,18 +1,19 @@
 // How many bits of a register, or of a byte of the cache, are ACE.
-ghost use Rattle.std.specs.Prelude.{◌≡◌, ◌+◌, ◌-◌, ◌*◌, ◌<◌, ◌≤◌, not, if◌then◌else◌};
-ghost use Rattle.bit_field.specs.Layouts.{number_of};
+ghost use Rattle.std.specs.Prelude.{◌≡◌, ◌+◌, ◌-◌, ◌*◌, ◌<◌, ◌≤◌, [], ◌∷◌, not, if◌then◌else◌};
 ghost use Rattle.need_pass.specs.Tables.{reg_need};
 ghost use Rattle.ace_rules.specs.AceGroups.{is_ace};
 ghost use Rattle.ace_rules.specs.FirstRules.{class_by};
 ghost use Rattle.ace_rules.specs.PipelineTests as asked;
+ghost use Rattle.ace_rules.specs.RuleMasks.{first_of};
 ghost use Rattle.ace_rules.specs.Sums.{count_below};
 
 use crate::analysis::Analysis;
 use crate::classes::note_at;
+use crate::line_bytes::ByteStay;
 use crate::note::Note;
 use crate::registers::{decoded, is_overwritten};
-use ace_class::Class;
-use bit_field::{Place, Structure};
+use crate::tally::RuleMask;
+use crate::tally_pending::BYTE_MASK;
 use need_pass::NeedTable;
 
 /// How many bits of a group are ACE, and a cycle up to before which each bit of the group keeps its class.
@@ -48,14 +49,12 @@ fn aces_of_register(note: &Note, needs: &NeedTable, quiet: bool, r: u8) -> u32
     ace_mask(note, needs, quiet, r).count_ones()
 }
 
-/// One where a class is ACE, else none.
-fn one_if_ace(class: Class) -> u32
-    ensures { result ≡ number_of (is_ace class) }
+/// How many bits of a byte a rule leaves, which are ACE.
+#[tactic(auto, using(crate::proofs::LeftBits::left_counted))]
+fn aces_beside(found: RuleMask) -> u32
+    ensures { result ≡ count_below 8 (λ k. is_ace (first_of (found ∷ []) k)) }
 {
-    match class {
-        Class::Ace => 1,
-        Class::UnAce(_) => 0,
-    }
+    (BYTE_MASK ^ (BYTE_MASK & found.mask)).count_ones()
 }
 
 impl Analysis<'_> {
@@ -89,17 +88,10 @@ impl Analysis<'_> {
         ensures aces { AreAces self.now structure.CData (8 * group) 8 cycle result }
         ensures after { cycle < result.until }
     {
-        self.recorded.is_record();
-        let mut bits = 0;
-        let mut until = self.recorded.cycles();
-        for bit in 0..8 {
-            let place = Place {
-                structure: Structure::CData,
-                bit: 8 * group + bit,
-            };
-            bits += one_if_ace(self.class_of(&place, cycle));
-            until = until.min(self.idle_until(&place, cycle));
+        let ByteStay { found, until } = self.byte_in(group, cycle);
+        Aces {
+            bits: aces_beside(found),
+            until,
         }
-        Aces { bits, until }
     }
 }

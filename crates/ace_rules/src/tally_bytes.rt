@@ -33,7 +33,7 @@ impl Analysis<'_> {
 
     /// The classes of the data bits of a byte of the cache in a cycle, and a cycle above it, at most the number of cycles, up to before which
     /// they surely stay.
-    fn byte_in(&self, byte: u32, cycle: u32) -> ByteStay
+    pub(crate) fn byte_in(&self, byte: u32, cycle: u32) -> ByteStay
         requires byte { 8 * byte + 8 ≤ bits_in structure.CData self.now.r.shape }
         requires cycle { cycle < self.now.r.cycles }
         ensures after { cycle < result.until }
