@@ -1,6 +1,6 @@
 -- Rows of counts that grow by pairs of a bit and a cycle.
 use Rattle.std.proofs.Common.{◌≡◌, ℕ, zero, suc, ◌+◌, ◌-◌, ◌*◌, ◌<◌, ◌≤◌, ◌==◌, List, [], ◌∷◌, length, refl, sym, ap, ◌∙◌, subst, inl, inr, arith}
-use Rattle.std.specs.Prelude.{slice_index}
+use Rattle.std.specs.Prelude.{replicate, slice_index}
 use Rattle.std.proofs.Math.Nat.{suc-mul}
 use Rattle.std.proofs.lemmas.Bool.{cases_lt}
 use Rattle.bit_field.specs.Layouts.{number_of}
@@ -14,7 +14,7 @@ use Rattle.ace_rules.specs.Tallies.{ArePairsAdded, IsAdded, IsTally}
 use Rattle.ace_rules.specs.declared.tally.RuleMask.{RuleMask}
 use Rattle.ace_rules.proofs.FirstMasks.{sum_below-mul}
 use Rattle.ace_rules.proofs.Sums.{sum_below-add, sum_below-const, sum_below-same, sum_below-split}
-use Rattle.ace_rules.proofs.Tallies.{joined, joined-back, joined-front, pairs-le, tally-next_cycle, tally-no_cycles}
+use Rattle.ace_rules.proofs.Tallies.{joined, joined-back, joined-front, pairs-le, tally-next_cycle, tally-no_cycles, zeros}
 
 -- no cycle yet
 pub pairs-start : (Has : ℕ → ℕ → Class → Type 0) (bits : ℕ) (row : List ℕ) → ArePairsAdded Has bits 0 row row
@@ -66,24 +66,30 @@ pairs-later Has bits m more old between row h next = record {
       omega (arith, a, b, s);
 }
 
+-- a tally is what is added to a row of zeros
+tally-pairs : (Has : ℕ → ℕ → Class → Type 0) (bits cycles : ℕ) (row : List ℕ) → IsTally Has bits cycles row
+    → ArePairsAdded Has bits cycles (replicate CLASSES 0) row
+tally-pairs Has bits cycles row h = record {
+  classes = h.classes;
+  are = h.are;
+  full = h.full;
+  counts = λ n. let e = h.counts n in let z = zeros CLASSES n in omega (arith, e, z);
+}
+
+pairs-tally : (Has : ℕ → ℕ → Class → Type 0) (bits cycles : ℕ) (row : List ℕ) → ArePairsAdded Has bits cycles (replicate CLASSES 0) row
+    → IsTally Has bits cycles row
+pairs-tally Has bits cycles row h = record {
+  classes = h.classes;
+  are = h.are;
+  full = h.full;
+  counts = λ n. let e = h.counts n in let z = zeros CLASSES n in omega (arith, e, z);
+}
+
 pub tally-later : (Has : ℕ → ℕ → Class → Type 0) (bits m more : ℕ) (old row : List ℕ) → IsTally Has bits m old
     → ArePairsAdded (λ k t. Has k (m + t)) bits more old row → IsTally Has bits (m + more) row
-tally-later Has bits m more old row h next = record {
-  classes = λ k. joined m (h.classes k) (next.classes k);
-  are = λ k t l b. elim (cases_lt t m) [
-    | inl front ↦ rw (joined-front m (h.classes k) (next.classes k) t front) (h.are k t l front)
-    | inr behind ↦
-        let e : m + (t - m) ≡ t = omega (arith, behind) in
-        subst (λ (i : ℕ). Has k i (joined m (h.classes k) (next.classes k) i)) e
-        (rw (joined-back m (h.classes k) (next.classes k) (t - m)) (next.are k (t - m) l (omega (arith, behind, b))))
-  ];
-  full = next.full ∙ h.full;
-  counts = λ n.
-      let a = h.counts n in
-      let b = next.counts n in
-      let s = later-counts h.classes next.classes bits m more n in
-      omega (arith, a, b, s);
-}
+tally-later Has bits m more old row h next =
+    pairs-tally Has bits (m + more) row
+    (pairs-later Has bits m more (replicate CLASSES 0) old row (tally-pairs Has bits m old h) next)
 
 -- further bits in the same cycles
 more-counts : (f g : ℕ → ℕ → Class) (m more cycles n : ℕ) → counted (joined m f g) (m + more) cycles n ≡ counted f m cycles n + counted g more cycles n

@@ -64,8 +64,8 @@ impl Analysis<'_> {
         self.add_stretch(structure, cycle, 0, bits_in(structure, &shape), row);
     }
 
-    /// Adds to a row how many bits of a structure have each class in a cycle. The result is a cycle above it, at most the number of cycles, up to
-    /// before which the bits keep their classes: where the note says all that they go by, up to the next cycle that has another one.
+    /// Adds to a row how many bits of a structure have each class in a cycle, and in each up to before the result: a cycle above it, at
+    /// most the number of cycles. Where the note says all that the classes go by, that is the next cycle which has another one.
     fn add_here(&self, structure: Structure, cycle: u32, row: &mut [u64; CLASSES]) -> u32
         requires cycle { cycle < self.now.r.cycles }
         requires room { (n : ℕ) → slice_index row.old n + bits_in structure self.now.r.shape < 2 ^ 64 }
@@ -94,9 +94,8 @@ impl Analysis<'_> {
         until
     }
 
-    /// Adds to a row, whose numbers have room for that, how many pairs of a bit of a structure and a cycle have each class, in the cycles from
-    /// `cycle` up to before the result: in these each bit keeps its class. The result is above `cycle`, at most the number of cycles of the run.
-    /// It takes no memory.
+    /// Adds to a row, whose numbers have room for that, how many pairs of a bit of a structure and a cycle have each class, in the
+    /// cycles from `cycle` up to before the result, which is above it, at most the number of cycles of the run. It takes no memory.
     pub fn add_cycles(&self, structure: Structure, cycle: u32, row: &mut [u64; CLASSES]) -> u32
         requires cycle { cycle < self.now.r.cycles }
         requires room { (n : ℕ) → slice_index row.old n + bits_in structure self.now.r.shape * (self.now.r.cycles - cycle) < 2 ^ 64 }

@@ -9,8 +9,8 @@ impl Analysis<'_> {
     ghost use Rattle.ace_rules.specs.Analyses.{HasOneClass};
     ghost use Rattle.ace_rules.specs.Stays.{HasAnotherClass, Stays};
 
-    /// A cycle above `cycle`, at most the number of cycles of the run, up to before which the class of the bit at a place surely stays. It takes
-    /// no memory.
+    /// A cycle above `cycle`, at most the number of cycles of the run, up to before which the class of the bit at a place surely
+    /// stays. It takes no memory.
     pub fn idle_until(&self, place: &Place, cycle: u32) -> u32
         requires place { IsPlaceIn self.now.r.shape place.now }
         requires cycle { cycle < self.now.r.cycles }
