@@ -18,7 +18,7 @@ pub mod ReadInputs
 pub mod Rows
 pub mod Seeming
 pub mod UnderLog
-pub mod UnneededStores
+pub mod Unneeded
 pub mod UnreadBits
 pub mod UnreadFields
 pub mod UnreadMasks
