@@ -17,6 +17,7 @@ pub mod QuickDoings
 pub mod ReadInputs
 pub mod Rows
 pub mod Seeming
+pub mod StoredElsewhere
 pub mod UnderLog
 pub mod Unneeded
 pub mod UnreadBits

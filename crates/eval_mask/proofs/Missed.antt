@@ -36,14 +36,14 @@ parted_never needs arch case doing t same e a = no_both t (is_true t (same.1 (go
 
 -- ---- blocks in different words
 
-word_of_block : (kind : StoreKind) (x p : ℕ) → accesses (store_size kind) x p ≡ true → p / 4 ≡ x / 4
+pub word_of_block : (kind : StoreKind) (x p : ℕ) → accesses (store_size kind) x p ≡ true → p / 4 ≡ x / 4
 unfolding accesses
 word_of_block Sb x p c = let e = eqb-true (p / 1) (x / 1) c in omega arith
 word_of_block Sh x p c = let e = eqb-true (p / 2) (x / 2) c in omega arith
 word_of_block Sw x p c = let e = eqb-true (p / 4) (x / 4) c in omega arith
 
 -- where a store in RAM covers byte p, it is in the store's word
-word_if : (t : Bool) (kind : StoreKind) (x y p : ℕ) → covers (if t then Some (record { kind = kind; address = x; value = y }) else None) p ≡ true → p / 4 ≡ x / 4
+pub word_if : (t : Bool) (kind : StoreKind) (x y p : ℕ) → covers (if t then Some (record { kind = kind; address = x; value = y }) else None) p ≡ true → p / 4 ≡ x / 4
 word_if true kind x y p c = word_of_block kind x p c
 word_if false kind x y p c = absurd (grind arith)
 
