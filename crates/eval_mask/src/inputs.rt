@@ -114,7 +114,7 @@ fn is_value_alike(case: &Case, value: u32) -> bool
 }
 
 /// The immediate.
-fn immediate_of(d: &IdEx) -> u32
+pub fn immediate_of(d: &IdEx) -> u32
     ensures { result ≡ d.now.imm }
 {
     d.imm
