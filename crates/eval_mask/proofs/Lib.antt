@@ -21,8 +21,9 @@ pub mod ReadInputs
 pub mod Rows
 pub mod SameRegister
 pub mod Seeming
+pub mod StoredElsewhere
 pub mod UnderLog
-pub mod UnneededStores
+pub mod Unneeded
 pub mod UnreadBits
 pub mod UnreadFields
 pub mod UnreadMasks

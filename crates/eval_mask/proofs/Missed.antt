@@ -36,7 +36,7 @@ parted_never needs arch case doing t same e a = no_both t (is_true t (same.1 (go
 
 -- ---- blocks in different words
 
-word_of : (store : Store) (p : ℕ) → covers (Some store) p ≡ true → p / 4 ≡ store.address / 4
+pub word_of : (store : Store) (p : ℕ) → covers (Some store) p ≡ true → p / 4 ≡ store.address / 4
 unfolding accesses
 word_of store p c = by_kind store.kind c
   where
@@ -46,7 +46,7 @@ word_of store p c = by_kind store.kind c
     by_kind Sw h = let e = eqb-true (p / 4) (store.address / 4) h in omega arith
 
 -- where a store in RAM covers byte p, it is in the store's word
-word_if : (t : Bool) (kind : StoreKind) (x y p : ℕ) → covers (if t then Some (record { kind = kind; address = x; value = y }) else None) p ≡ true → p / 4 ≡ x / 4
+pub word_if : (t : Bool) (kind : StoreKind) (x y p : ℕ) → covers (if t then Some (record { kind = kind; address = x; value = y }) else None) p ≡ true → p / 4 ≡ x / 4
 word_if true kind x y p c = word_of (record { kind = kind; address = x; value = y }) p c
 word_if false kind x y p c = absurd (grind arith)
 

@@ -11,10 +11,10 @@ use Rattle.rv_table.specs.declared.trap.TheConstants.{MISALIGNED_TARGET}
 use Rattle.rv_table.specs.declared.operation.BranchKind.{BranchKind}
 use Rattle.rv_table.specs.declared.operation.LoadKind.{LoadKind}
 use Rattle.rv_table.specs.declared.operation.StoreKind.{StoreKind}
-use Rattle.rv_table.specs.declared.operation.Operation.TheVariants.{Branch, Load, Store}
+use Rattle.rv_table.specs.declared.operation.Operation.TheVariants.{Branch, Illegal, Load, Store}
 use Rattle.pipe_latch.specs.Latches.{DecodedLatch}
 use Rattle.eval_mask.specs.Aftermaths.{doing_with}
-use Rattle.eval_mask.specs.QuickDoings.{branch_doing, load_doing, store_doing}
+use Rattle.eval_mask.specs.QuickDoings.{branch_doing, illegal_doing, load_doing, store_doing}
 use Rattle.eval_mask.specs.declared.completing.Doing.{Doing}
 
 abbrev doing : Action → ℕ → Doing
@@ -25,6 +25,10 @@ judged_or : (image : LoadedImage) (t : Bool) (cause rd v : ℕ)
 unfolding judged
 judged_or image true cause rd v = refl
 judged_or image false cause rd v = refl
+
+pub illegal_is : (image : LoadedImage) (d : DecodedLatch) (x a held : ℕ) → operation_of d.op ≡ Illegal → illegal_doing d ≡ doing_with image d x a held
+unfolding doing_with action judged asked asked_by value_by next_address taken_by target_by with_counter counter_by
+illegal_is image d x a held e = rw e refl
 
 pub branch_is : (image : LoadedImage) (d : DecodedLatch) (x a held : ℕ) (kind : BranchKind) → operation_of d.op ≡ Branch kind
     → branch_doing d kind a held ≡ doing_with image d x a held
@@ -45,4 +49,4 @@ pub store_is : (image : LoadedImage) (d : DecodedLatch) (x a held : ℕ) (kind :
 unfolding doing_with action asked asked_by value_by next_address taken_by target_by with_counter counter_by
 store_is image d x a held kind e = rw e refl
 
-pub ruleset quick_doings = (branch_is, load_is, store_is)
+pub ruleset quick_doings = (illegal_is, branch_is, load_is, store_is)

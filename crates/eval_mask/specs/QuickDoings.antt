@@ -1,4 +1,4 @@
--- What branches, loads and stores in ID/EX do, without the operation.
+-- What branches, loads, stores and codes without an instruction in ID/EX do, without the operation.
 use Rattle.std.specs.Prelude.{◌≡◌, ◌⊎◌, ℕ, ◌/◌, ◌*◌, ◌&&◌, Bool, IsTrue, not, if◌then◌else◌}
 use Rattle.elf_load.specs.Image.{LoadedImage, executable, word_in_ram}
 use Rattle.rv_table.specs.Actions.{holds, is_aligned, judged, load_asked, next_word, store_asked}
@@ -8,13 +8,17 @@ use Rattle.rv_table.specs.declared.action.Action.TheVariants.{Traps, Writes}
 use Rattle.rv_table.specs.declared.operation.BranchKind.{BranchKind}
 use Rattle.rv_table.specs.declared.operation.LoadKind.{LoadKind}
 use Rattle.rv_table.specs.declared.operation.StoreKind.{StoreKind}
-use Rattle.rv_table.specs.declared.trap.TheConstants.{MISALIGNED_TARGET}
+use Rattle.rv_table.specs.declared.trap.TheConstants.{ILLEGAL_INSTRUCTION, MISALIGNED_TARGET}
 use Rattle.pipe_latch.specs.Latches.{DecodedLatch}
 use Rattle.eval_mask.specs.declared.completing.Doing.{Doing}
 
 -- an action as an image's memory judges it
 abbrev pub judged_in : LoadedImage → Action → Action
 judged_in image done = judged (word_in_ram image) (executable image) done
+
+-- a code without an instruction traps
+abbrev pub illegal_doing : DecodedLatch → Doing
+illegal_doing d = record { action = Traps ILLEGAL_INSTRUCTION; next = next_word d.pc }
 
 -- what a branch does that is taken or not; one to a target that is no multiple of 4 traps
 abbrev pub way_doing : DecodedLatch → Bool → Doing

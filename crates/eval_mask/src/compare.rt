@@ -102,7 +102,7 @@ fn reg_need(needs: &NeedTable, at: u32, known: &Known, r: u8) -> u32
 
 /// Whether two values of register `r` are the same where it is needed. Need is asked only where they differ.
 #[tactic(auto, using(crate::proofs::Differences::same_all))]
-fn same_values(needs: &NeedTable, at: u32, known: &Known, r: u8, a: u32, b: u32) -> bool
+pub fn same_values(needs: &NeedTable, at: u32, known: &Known, r: u8, a: u32, b: u32) -> bool
     requires above { 0 < r }
     requires below { r < 32 }
     requires at { at ≤ needs.now.count }

@@ -11,7 +11,7 @@ ghost use Rattle.pipe_latch.specs.Latches.{ExecutedLatch, op_of_latch};
 ghost use Rattle.eval_mask.specs.Aftermaths as spec;
 ghost use Rattle.eval_mask.specs.Aftermaths.{memory_after, registers_after, stored_over, written};
 
-use crate::quick::{branch_doing, load_doing, store_doing};
+use crate::quick::{branch_doing, illegal_doing, load_doing, store_doing};
 use avf_base::End;
 use elf_load::Image;
 use pipe_latch::{ExMem, IdEx, MemWb, execute};
@@ -307,6 +307,7 @@ pub fn doing_with(d: &IdEx, a: u32, held: u32, issued: u32, image: &Image) -> Do
     ensures { result ≡ spec.doing_with image.now d.now issued a held }
 {
     match operation_of(d.op) {
+        Operation::Illegal => illegal_doing(d),
         Operation::Lui => plain_doing(d, d.imm),
         Operation::Auipc => plain_doing(d, (4 * d.pc).wrapping_add(d.imm)),
         Operation::AluImmediate(kind) => immediate_doing(d, kind, a),

@@ -1,16 +1,16 @@
-// Stores of ID/EX where what it changes isn't needed: they leave the same where the bytes under them are the same.
-ghost use Rattle.std.specs.Prelude.{◌≡◌, ◌↔◌, ◌+◌, ◌^◌, ◌<◌, ◌≤◌, IsTrue, Some, true};
+// Stores and writes of ID/EX where what it changes isn't needed: they leave the same where what is under them is the same.
+ghost use Rattle.std.specs.Prelude.{◌≡◌, ◌↔◌, ◌+◌, ◌^◌, ◌<◌, ◌≤◌, IsTrue, Some, slice_index, true};
 ghost use Rattle.rv_isa.specs.Architecture.{state_of};
-ghost use Rattle.eval_mask.specs.Aftermaths.{stored_over};
-ghost use Rattle.eval_mask.specs.Compared.{SameByte, SameCovered, SameRun};
-ghost use Rattle.eval_mask.specs.OtherDoings.{DoesAlike, GoesAlike, IsIdle};
+ghost use Rattle.eval_mask.specs.Aftermaths.{stored_over, written};
+ghost use Rattle.eval_mask.specs.Compared.{IsKnown, SameByte, SameCovered, SameRegister, SameRun};
+ghost use Rattle.eval_mask.specs.OtherDoings.{DoesAlike, GoesAlike, IsIdle, is_given};
 ghost use Rattle.eval_mask.specs.Unread.{is_store};
 
 use crate::cases::Case;
-use crate::compare::same_byte_values;
-use crate::completing::{Doing, Store, byte_over, store_by};
+use crate::compare::{same_byte_values, same_values};
+use crate::completing::{Doing, Store, Write, byte_over, given, register_over, store_by};
 use need_pass::NeedTable;
-use rv_isa::Arch;
+use rv_isa::{Arch, written_register};
 use rv_table::StoreKind;
 
 /// Whether a store over another one leaves the byte at a byte address the same where it is needed.
@@ -88,7 +88,7 @@ fn keeps_bytes(
 }
 
 /// Whether the same is left where ID/EX stores, goes on as the latches as they are, and what these change in it isn't needed.
-#[tactic(auto, using(crate::proofs::UnneededStores::idle_store))]
+#[tactic(auto, using(crate::proofs::Unneeded::idle_store))]
 pub fn is_store_alike(arch: &Arch<'_>, needs: &NeedTable, case: &Case, doing: &Doing) -> bool
     requires within { case.now.first_after ≤ needs.now.count }
     requires idle { IsIdle needs.now arch.now case.now }
@@ -98,4 +98,39 @@ pub fn is_store_alike(arch: &Arch<'_>, needs: &NeedTable, case: &Case, doing: &D
 {
     let store = store_by(arch.image(), &doing.action);
     keeps_bytes(arch, needs, case.first_after, &case.own.below.store, &store)
+}
+
+/// Whether a write over those of EX/MEM and MEM/WB leaves its register the same where it is needed.
+fn keeps_register(arch: &Arch<'_>, needs: &NeedTable, case: &Case, write: &Write) -> bool
+    requires within { case.now.first_after ≤ needs.now.count }
+    requires known { IsKnown needs.now case.now.first_after case.now.known }
+    ensures { IsTrue result ↔ SameRegister needs.now case.now.first_after (written write.now (written case.now.own.below.write (written case.now.own.first (written case.now.oldest (slice_index arch.now.registers))))) (written case.now.own.below.write (written case.now.own.first (written case.now.oldest (slice_index arch.now.registers)))) write.now.rd }
+{
+    let r = write.rd;
+    if r == 0 || r > 31 {
+        return true;
+    }
+    let oldest = register_over(&case.oldest, r, arch.reg(r));
+    let first = register_over(&case.own.first, r, oldest);
+    let under = register_over(&case.own.below.write, r, first);
+    let over = register_over(write, r, under);
+    same_values(needs, case.first_after, &case.known, r, over, under)
+}
+
+/// Whether the same is left where ID/EX writes a register and does nothing else, goes on as the latches as they are, and what these change
+/// in it isn't needed.
+#[tactic(auto, using(crate::proofs::Unneeded::idle_write))]
+pub fn is_write_alike(arch: &Arch<'_>, needs: &NeedTable, case: &Case, doing: &Doing) -> bool
+    requires within { case.now.first_after ≤ needs.now.count }
+    requires known { IsKnown needs.now case.now.first_after case.now.known }
+    requires idle { IsIdle needs.now arch.now case.now }
+    requires goes { GoesAlike case.now doing.now }
+    requires given { is_given doing.now.action ≡ true }
+    ensures { IsTrue result ↔ DoesAlike needs.now arch.now case.now doing.now }
+{
+    let write = Write {
+        rd: written_register(&doing.action),
+        value: given(arch, &case.own.below.store, &doing.action),
+    };
+    keeps_register(arch, needs, case, &write)
 }

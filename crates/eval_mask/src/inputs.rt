@@ -1,11 +1,11 @@
 // Bits of what a completed ID/EX reads: its operands and its immediate.
-ghost use Rattle.std.specs.Prelude.{◌≡◌, ◌↔◌, ◌+◌, ◌*◌, ◌<◌, ◌≤◌, ℕ, IsTrue, false, true};
+ghost use Rattle.std.specs.Prelude.{◌≡◌, ◌↔◌, ◌+◌, ◌*◌, ◌/◌, ◌<◌, ◌≤◌, ℕ, IsTrue, false, true};
 ghost use Rattle.rv_table.specs.Operations.{operation_of};
 ghost use Rattle.pipe_latch.specs.DecodedBits as bits;
 ghost use Rattle.eval_mask.specs.Aftermaths.{doing_with, operand_after};
 ghost use Rattle.rv_table.specs.Arithmetic.{sum32};
 ghost use Rattle.eval_mask.specs.Cases.{IsCase};
-ghost use Rattle.eval_mask.specs.Compared.{IsKnown, SameWhere, need_at};
+ghost use Rattle.eval_mask.specs.Compared.{IsKnown, SameWhere, covers, need_at};
 ghost use Rattle.eval_mask.specs.LatchMasks.{IsDecodedMasked};
 ghost use Rattle.bit_field.specs.Layouts.{flip};
 ghost use Rattle.eval_mask.specs.Unread.{DoesTheSame};
@@ -13,7 +13,7 @@ ghost use Rattle.eval_mask.specs.OtherDoings.{DoesAlike, IsFacts, IsLike, NeedsO
 
 use crate::cases::Case;
 use crate::compare::same_word;
-use crate::completing::{Write, doing_with, operand_after};
+use crate::completing::{Store, Write, doing_with, operand_after};
 use crate::needed::{is_doing_masked, is_idle, is_quiet};
 use bit_field::{Struck, flip_at_u8, flip_at_u32};
 use need_pass::NeedTable;
@@ -114,7 +114,7 @@ fn is_value_alike(case: &Case, value: u32) -> bool
 }
 
 /// The immediate.
-fn immediate_of(d: &IdEx) -> u32
+pub fn immediate_of(d: &IdEx) -> u32
     ensures { result ≡ d.now.imm }
 {
     d.imm
@@ -139,6 +139,23 @@ fn second_operand(below: &Write, w: &MemWb, d: &IdEx) -> u32
     ensures { result ≡ operand_after below.now w.now d.now.rs2 d.now.b }
 {
     operand_after(below, w, d.rs2, d.b)
+}
+
+/// A byte address from operand a on.
+fn address_from(a: u32, d: &IdEx) -> u32
+    ensures { result ≡ sum32 a d.now.imm }
+{
+    a.wrapping_add(d.imm)
+}
+
+/// Whether a byte address is in another word than a store.
+fn is_elsewhere(store: &Option<Store>, address: u32) -> bool
+    ensures { IsTrue result → (p : ℕ) → covers store.now p ≡ true → p / 4 ≡ address / 4 → ⊥ }
+{
+    match *store {
+        Some(store) => address / 4 != store.address / 4,
+        None => true,
+    }
 }
 
 /// Whether the same is left, where it is needed, by a latch that differs from ID/EX in what it reads alone, with operands a and `held`.
@@ -166,6 +183,8 @@ fn is_alike(
             is_value_alike(case, alu(kind, a, immediate_of(other)))
         },
         Operation::Alu(kind) => is_value_alike(case, alu(kind, a, held)),
+        Operation::Store(_)
+            if facts.needed && is_elsewhere(&case.own.above.store, address_from(a, other)) => false,
         _ => {
             let doing = doing_with(other, a, held, case.issued, arch.image());
             is_doing_masked(arch, needs, case, facts, &doing)

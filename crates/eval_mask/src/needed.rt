@@ -14,7 +14,7 @@ ghost use Rattle.pipe_latch.specs.Latches.{DecodedLatch};
 use crate::cases::{Case, is_doing_alike, same_left};
 use crate::compare::{same_end, same_word};
 use crate::completing::{Aftermath, Change, Doing, NO_CHANGE, Store, given};
-use crate::idle::is_store_alike;
+use crate::idle::{is_store_alike, is_write_alike};
 use crate::inputs::Facts;
 use need_pass::NeedTable;
 use rv_isa::{Arch, end_of, written_register};
@@ -104,7 +104,7 @@ fn gives_same(arch: &Arch<'_>, case: &Case, action: &Action) -> bool
 }
 
 /// Whether the same is left, where it is needed, with another doing of ID/EX, where it is completed.
-#[tactic(auto, using(crate::proofs::Missed::missed_never, crate::proofs::UnneededStores::given_alike))]
+#[tactic(auto, using(crate::proofs::Missed::missed_never, crate::proofs::Unneeded::given_alike))]
 pub fn is_doing_masked(
     arch: &Arch<'_>,
     needs: &NeedTable,
@@ -128,6 +128,9 @@ pub fn is_doing_masked(
     }
     if facts.needed && is_missed(&case.own.above, &doing.action) {
         return false;
+    }
+    if facts.idle && is_given(&doing.action) {
+        return is_write_alike(arch, needs, case, doing);
     }
     if facts.idle && is_store(&doing.action) {
         return is_store_alike(arch, needs, case, doing);

@@ -1,4 +1,4 @@
-// What branches, loads and stores in ID/EX do, without the operation.
+// What branches, loads, stores and codes without an instruction in ID/EX do, without the operation.
 ghost use Rattle.std.specs.Prelude.{◌≡◌, ◌/◌, true};
 ghost use Rattle.elf_load.specs.Image.{executable, word_in_ram};
 ghost use Rattle.rv_table.specs.Accesses.{store_size};
@@ -9,6 +9,16 @@ use crate::completing::Doing;
 use elf_load::Image;
 use pipe_latch::IdEx;
 use rv_table::{Action, BranchKind, LoadKind, StoreKind, holds, trap};
+
+/// What a code without an instruction does.
+pub fn illegal_doing(d: &IdEx) -> Doing
+    ensures { result ≡ spec.illegal_doing d.now }
+{
+    Doing {
+        action: Action::Traps(trap::ILLEGAL_INSTRUCTION),
+        next: (d.pc + 1) % 0x4000_0000,
+    }
+}
 
 /// What a branch does that is taken or not.
 pub fn way_doing(d: &IdEx, taken: bool) -> Doing

@@ -11,6 +11,7 @@ ghost use Rattle.eval_mask.specs.Unread as unread;
 
 use crate::cases::Case;
 use crate::compare::same_word;
+use crate::inputs::immediate_of;
 use need_pass::NeedTable;
 use pipe_latch::{ExMem, IdEx, MemWb};
 use rv_isa::Arch;
@@ -96,13 +97,6 @@ pub fn alu_second(
         case.held,
         case.own.above.write.value,
     )
-}
-
-/// The immediate.
-fn immediate_of(d: &IdEx) -> u32
-    ensures { result ≡ d.now.imm }
-{
-    d.imm
 }
 
 /// The masked bits of the first operand of an operation of a register and the immediate.

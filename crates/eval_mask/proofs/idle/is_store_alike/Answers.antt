@@ -1,4 +1,4 @@
-use Rattle.eval_mask.proofs.UnneededStores.{idle_store}
+use Rattle.eval_mask.proofs.Unneeded.{idle_store}
 use Rattle.eval_mask.proofs.idle.is_store_alike.Goals as goal
 
 pub returns : goal.returns

@@ -1,5 +1,7 @@
 use Rattle.std.proofs.Common.{sym, ◌∙◌}
 use Rattle.eval_mask.proofs.ReadInputs.{alu_alike, auipc_alike, immediate_alike, lui_alike}
+use Rattle.eval_mask.proofs.Masked.{not_true}
+use Rattle.eval_mask.proofs.StoredElsewhere.{elsewhere_never}
 use Rattle.eval_mask.proofs.inputs.is_alike.Goals as goal
 
 pub returns-in-Lui : goal.returns-in-Lui
@@ -23,3 +25,13 @@ returns-in-Alu c =
     alu_alike c.args.needs.now c.args.arch.now c.args.case.now c.args.other.now c.args.a c.args.held c.in-Alu.kind
     c.is_value_alike-in-Alu.result c.requires.like c.requires.need (sym c.requires.facts.operation ∙ c.in-Alu.is)
     (rw c.alu-in-Alu.ensures at c.is_value_alike-in-Alu.ensures)
+
+pub returns-in-Store : goal.returns-in-Store
+returns-in-Store c = (
+  λ t. absurd (not_true t),
+  λ a.
+      absurd
+      (elsewhere_never c.args.needs.now c.args.arch.now c.args.case.now c.args.other.now c.args.a c.args.held c.in-Store.field-0
+      (c.requires.facts.needed c.if-facts.true) (sym c.requires.facts.operation ∙ c.in-Store.is)
+      (rw c.address_from.ensures at (c.is_elsewhere.ensures c.if-is_elsewhere.true)) a),
+)

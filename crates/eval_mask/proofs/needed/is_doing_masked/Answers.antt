@@ -1,6 +1,6 @@
 use Rattle.eval_mask.proofs.Masked.{not_true}
 use Rattle.eval_mask.proofs.Missed.{parted_never}
-use Rattle.eval_mask.proofs.UnneededStores.{given_alike}
+use Rattle.eval_mask.proofs.Unneeded.{given_alike}
 use Rattle.eval_mask.proofs.needed.is_doing_masked.Goals as goal
 
 pub returns-then-not-goes_alike : goal.returns-then-not-goes_alike

@@ -1,5 +1,6 @@
--- Doings of ID/EX that store, where what ID/EX changes isn't needed; and doings that write the same register.
-use Rattle.std.proofs.Common.{◌≡◌, ◌↔◌, ℕ, Bool, true, refl, sym, ◌∙◌, ap, subst, arith}
+-- Doings of ID/EX that store or write, where what ID/EX changes isn't needed; and doings that write the same register.
+use Rattle.std.proofs.Common.{◌≡◌, ◌↔◌, ℕ, Bool, true, refl, sym, ◌∙◌, ap, subst, arith, inl, inr}
+use Rattle.std.proofs.lemmas.Bool.{cases_eq}
 use Rattle.std.specs.Prelude.{[], IsTrue, Option, None, slice_index}
 use Rattle.std.proofs.lemmas.Bool.Decides.{nat_tests}
 use Rattle.elf_load.specs.Image.{LoadedImage}
@@ -11,7 +12,7 @@ use Rattle.rv_isa.specs.Instruction.{State, end_of, given, with_byte}
 use Rattle.need_pass.specs.Tables.{Needs, byte_need, reg_need}
 use Rattle.eval_mask.specs.Aftermaths.{change_of, left_by, no_change, state_after, store_by, stored_over, written}
 use Rattle.eval_mask.specs.Agreement.{Agree}
-use Rattle.eval_mask.specs.Compared.{SameByte, SameBytes, SameCovered, SameRegisters, SameWhere, covers, need_at}
+use Rattle.eval_mask.specs.Compared.{SameByte, SameBytes, SameCovered, SameRegister, SameRegisters, SameWhere, covers, need_at}
 use Rattle.eval_mask.specs.OtherDoings.{DoesAlike, GoesAlike, IsIdle, is_given}
 use Rattle.eval_mask.specs.Unread.{is_store}
 use Rattle.eval_mask.specs.declared.cases.Case.{Case}
@@ -21,7 +22,7 @@ use Rattle.eval_mask.specs.declared.completing.Doing.{Doing}
 use Rattle.eval_mask.specs.declared.completing.Store.{Store}
 use Rattle.eval_mask.specs.declared.completing.Write.{Write}
 use Rattle.eval_mask.proofs.Agreeing.{agree_by, agree_next}
-use Rattle.eval_mask.proofs.Differences.{chained, if_or, same_all, uncovered}
+use Rattle.eval_mask.proofs.Differences.{chained, if_or, same_all, uncovered, unwritten}
 use Rattle.eval_mask.proofs.Doings.{writes_agree}
 
 -- ---- agreement goes over
@@ -123,6 +124,81 @@ idle_store needs arch case doing r idle goes is h =
           }),
     )
 
+-- ---- writes where the own one isn't needed
+
+given_ends : (done : Action) → is_given done ≡ true → end_of done ≡ None
+given_ends (Writes rd v) e = refl
+given_ends (Loads kind rd x) e = refl
+given_ends Nothing e = refl
+given_ends (Stores kind x y) e = refl
+given_ends (Puts v) e = refl
+given_ends (Exits v) e = absurd (grind arith)
+given_ends (Traps cause) e = absurd (grind arith)
+
+given_puts : (done : Action) → is_given done ≡ true → byte_put done ≡ None
+given_puts (Writes rd v) e = refl
+given_puts (Loads kind rd x) e = refl
+given_puts Nothing e = refl
+given_puts (Stores kind x y) e = refl
+given_puts (Puts v) e = absurd (grind arith)
+given_puts (Exits v) e = refl
+given_puts (Traps cause) e = refl
+
+given_stores : (image : LoadedImage) (done : Action) → is_given done ≡ true → store_by image done ≡ None
+given_stores image (Writes rd v) e = refl
+given_stores image (Loads kind rd x) e = refl
+given_stores image Nothing e = refl
+given_stores image (Stores kind x y) e = absurd (grind arith)
+given_stores image (Puts v) e = refl
+given_stores image (Exits v) e = refl
+given_stores image (Traps cause) e = refl
+
+written_registers : (needs : Needs) (j : ℕ) (g : ℕ → ℕ) (w : Write) → SameRegister needs j (written w g) g w.rd → SameRegisters needs j (written w g) g
+written_registers needs j g w s = record {
+  same =
+      λ r.
+      elim (cases_eq r w.rd) [
+        | inl e ↦ subst (λ (q : ℕ). SameRegister needs j (written w g) g q) (sym e) s
+        | inr ne ↦ record { same = λ above below. same_all 32 (reg_need needs r j) (written w g r) (g r) (unwritten w g r ne) }
+      ];
+}
+
+no_bytes : (needs : Needs) (j : ℕ) (m : ℕ → ℕ) (store : Option Store) → store ≡ None → SameBytes needs j (stored_over store m) m
+no_bytes needs j m store e =
+    subst (λ (s : Option Store). SameBytes needs j (stored_over s m) m) (sym e)
+    (record { same = λ p. record { same = λ l. same_all 8 (byte_need needs p j) (m p) (m p) refl } })
+
+pub idle_write : (needs : Needs) (arch : ArchState) (case : Case) (doing : Doing) (r : Bool) → IsIdle needs arch case → GoesAlike case doing
+    → is_given doing.action ≡ true
+    → IsTrue r ↔ SameRegister needs case.first_after (written (record { rd = written_register doing.action; value = given arch.image doing.action (stored_over case.own.below.store (state_of arch).memory) }) (written case.own.below.write (written case.own.first (written case.oldest (slice_index arch.registers))))) (written case.own.below.write (written case.own.first (written case.oldest (slice_index arch.registers)))) (written_register doing.action)
+    → IsTrue r ↔ DoesAlike needs arch case doing
+unfolding left_by change_of
+idle_write needs arch case doing r idle goes is h =
+    let f = written case.oldest (slice_index arch.registers) in
+    let m = (state_of arch).memory in
+    let j = case.first_after in
+    let left : Aftermath = left_by arch.image case.own.first case.own.below doing m in
+    let bare : Aftermath = record case.own { above = no_change } in
+    let under = stored_over case.own.below.store m in
+    let g = written case.own.below.write (written case.own.first f) in (
+      λ t.
+          goes_over needs j (state_after left f m) (state_after bare f m) (state_after case.own f m)
+          (agree_by needs j f m left bare
+          (ap (with_byte (with_byte [] case.own.below.put)) (given_puts doing.action is)) goes.end
+          (λ none.
+          record {
+            pc = goes.next none;
+            written = written_registers needs j g left.above.write (h.0 t);
+            stored = no_bytes needs j under (store_by arch.image doing.action) (given_stores arch.image doing.action is);
+          })) idle,
+      λ a.
+          h.1
+          ((agree_next needs j f m left bare
+          (goes_over needs j (state_after left f m) (state_after case.own f m) (state_after bare f m) a
+          (turned needs j (state_after bare f m) (state_after case.own f m) idle))
+          (given_ends doing.action is)).written.same (written_register doing.action)),
+    )
+
 -- ---- writes of the same register
 
 as_write : (image : LoadedImage) (first : Write) (below : Change) (done : Action) (next : ℕ) (memory : ℕ → ℕ) → is_given done ≡ true
@@ -142,15 +218,6 @@ own_write_is : (image : LoadedImage) (first : Write) (below : Change) (doing : D
     → (own.above.write.rd ≡ written_register doing.action) × (own.above.write.value ≡ given image doing.action (stored_over below.store memory)) × (own.pc ≡ doing.next)
 unfolding left_by change_of
 own_write_is image first below doing memory own e = rw e (refl, refl, refl)
-
-given_ends : (done : Action) → is_given done ≡ true → end_of done ≡ None
-given_ends (Writes rd v) e = refl
-given_ends (Loads kind rd x) e = refl
-given_ends Nothing e = refl
-given_ends (Stores kind x y) e = refl
-given_ends (Puts v) e = refl
-given_ends (Exits v) e = absurd (grind arith)
-given_ends (Traps cause) e = absurd (grind arith)
 
 pub given_alike : (needs : Needs) (arch : ArchState) (case : Case) (doing : Doing) (r : Bool)
     → case.own ≡ left_by arch.image case.own.first case.own.below case.doing (state_of arch).memory
