@@ -133,17 +133,17 @@ fn turns<R: Abort + AllocGlobal, L: Ledger, M: Ledger>(
     let rows: [(&str, u32, u32); 14] = [
         ("run a.elf 6", 2, 4),
         ("dead a.elf 6", 2, 4),
-        ("report a.elf 6", 2, 16),
-        ("csv a.elf 6", 2, 16),
+        ("report a.elf 6", 2, 4),
+        ("csv a.elf 6", 2, 4),
         ("plan a.elf 6 262", 2, 4),
         ("campaign a.elf 6 1 8", 2, 4),
         ("due a.elf 6 both", 2, 4),
-        ("map a.elf 6", 2, 8192),
+        ("map a.elf 6", 2, 256),
         ("check a.elf 6 a.map", 4, 4),
         ("query a.elf 6 ib 32 1", 2, 4),
         ("flip a.elf 100 pc 0 0", 2, 4),
         ("with 1 16 1 run a.elf 6", 2, 4),
-        ("bench 1 1", 0, 16),
+        ("bench 1 1", 0, 4),
         ("asm a.s", 2, 4),
     ];
     for (line, reads, most) in rows {
