@@ -4,13 +4,13 @@ ghost use Rattle.rv_table.specs.declared.action.Action.TheVariants.{Nothing};
 ghost use Rattle.eval_mask.specs.Cases.{IsCase, IsMaskBelow};
 ghost use Rattle.eval_mask.specs.Stores.{lone_store};
 ghost use Rattle.eval_mask.specs.LatchMasks.{HasBits, IsExecutedMasked, IsLatchMask, IsResultMasked};
-ghost use Rattle.eval_mask.specs.Unread.{is_store};
 
 use crate::cases::{
     Case, case_of, is_kept, is_masked, is_unmoved, left_with, same_action, same_left,
 };
 use crate::completing::{Aftermath, Store, action_change, write_held};
 use crate::decoded::{decoded_bits, whole_field, with_field};
+use crate::needed::is_store;
 use crate::stores::{is_data_masked, is_place_masked, lone_store};
 use crate::written::{
     is_first_free, is_needed_result, is_result_free, known_below, known_first, unneeded,
@@ -227,13 +227,6 @@ fn is_nothing(action: &Action) -> bool
     ensures { IsTrue result → action.now ≡ Nothing }
 {
     matches!(*action, Action::Nothing)
-}
-
-/// Whether an action is a store.
-fn is_store(action: &Action) -> bool
-    ensures { result ≡ is_store action.now }
-{
-    matches!(*action, Action::Stores { .. })
 }
 
 /// The masked bits of EX/MEM's value to store, which are masked whole where it is no store.

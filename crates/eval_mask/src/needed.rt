@@ -68,7 +68,7 @@ fn is_missed(own: &Change, action: &Action) -> bool
 }
 
 /// Whether an action is a store.
-fn is_store(action: &Action) -> bool
+pub fn is_store(action: &Action) -> bool
     ensures { result ≡ unread.is_store action.now }
 {
     matches!(*action, Action::Stores { .. })
