@@ -1,7 +1,7 @@
 //! class_of IMAGE: how long the class of a random pair of a bit and a cycle takes, in nanoseconds, for all structures and for each.
 use ace_rules::Analysis;
 use avf_base::counter;
-use bit_field::{Place, Shape, Structure, bits_in, structure_name};
+use bit_field::{Place, Shape, bits_in, structure_name};
 use rattle_std::alloc::Global;
 use rattle_std::marker::Brand;
 use rattle_std::rt::R;
