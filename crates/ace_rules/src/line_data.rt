@@ -2,7 +2,7 @@
 ghost use Rattle.std.specs.Prelude.{◌≡◌, ◌<◌, ◌≤◌, ◌*◌, ◌&&◌, ℕ, Some, length, nat_le, slice_get};
 ghost use Rattle.bit_field.specs.Shapes.{IsShape, slots as slot_count};
 ghost use Rattle.bit_field.specs.declared.places.Structure.TheVariants.{CData};
-ghost use Rattle.slot_history.specs.Histories.{held_in};
+ghost use Rattle.slot_history.specs.Histories.{Histories, held_in};
 ghost use Rattle.line_life.specs.Lives.{next_in};
 ghost use Rattle.ace_rules.specs.Asked as asked;
 ghost use Rattle.ace_rules.specs.LineData as line_data;
@@ -36,8 +36,34 @@ fn is_dead_line(note: &Note, needs: &NeedTable, held: Held, offset: u32, bit: u3
     }
 }
 
-/// Whether a bit of a byte of a slot is dead in a cycle, and the cycle is quiet; so too where the run has no such cycle.
+/// Whether a bit of a byte of a slot that holds `held` in a cycle is dead there, and the cycle is quiet; so too where the run has no
+/// such cycle.
 #[tactic(auto, unfolding(crate::specs::LineData::is_dead_in))]
+fn is_dead_at(
+    notes: &[Note],
+    quiet: u32,
+    needs: &NeedTable,
+    held: Held,
+    offset: u32,
+    bit: u32,
+    cycle: u32,
+) -> bool
+    requires instructions { (t : ℕ) → (note : CycleNote) → slice_get notes.now t ≡ Some note → asked.retired_by note ≤ needs.now.count }
+    requires line { cycle < length notes.now → asked.IsLineHeld held }
+    requires offset { offset < 16 }
+    requires bit { bit < 8 }
+    ensures {
+        (slots : Histories) (slot : ℕ) → held ≡ held_in slots slot cycle
+        → result ≡ line_data.is_dead_in needs.now quiet slots slot offset bit cycle (slice_get notes.now cycle)
+    }
+{
+    match notes.get(cycle as usize) {
+        None => true,
+        Some(note) => quiet <= cycle && is_dead_line(note, needs, held, offset, bit),
+    }
+}
+
+/// Whether a bit of a byte of a slot is dead in a cycle, by what the slot holds in it.
 fn is_dead_in(
     notes: &[Note],
     quiet: u32,
@@ -55,11 +81,8 @@ fn is_dead_in(
     requires bit { bit < 8 }
     ensures { result ≡ line_data.is_dead_in needs.now quiet slots.now slot offset bit cycle (slice_get notes.now cycle) }
 {
-    match notes.get(cycle as usize) {
-        None => true,
-        Some(note) => quiet <= cycle
-            && is_dead_line(note, needs, slots.held(slot, cycle), offset, bit),
-    }
+    let held = slots.held(slot, cycle);
+    is_dead_at(notes, quiet, needs, held, offset, bit, cycle)
 }
 
 /// Whether a bit of a clean line is not read, by what next concerns its byte: after a write beside it, it is dirty in the cycle after,
@@ -105,31 +128,41 @@ pub(crate) fn next_at(life: &Life, shape: &Shape, slot: u32, offset: u32, cycle:
     life.next(slot / ways, slot % ways, offset, cycle)
 }
 
-/// The class of a bit of a slot's data, by what the slot holds and what next concerns the byte.
+/// The class of a bit of a slot's data, by what the slot holds, and where that is a clean line, by what next concerns the byte.
 #[tactic(auto, unfolding(crate::specs::LineData::data_class))]
 fn class_of(
     notes: &[Note],
     quiet: u32,
     needs: &NeedTable,
+    life: &Life,
     slots: &SlotTable,
+    shape: &Shape,
     cycle: u32,
     slot: u32,
     offset: u32,
     bit: u32,
     held: Held,
-    next: Next,
 ) -> Class
     requires instructions { (t : ℕ) → (note : CycleNote) → slice_get notes.now t ≡ Some note → asked.retired_by note ≤ needs.now.count }
-    requires slot { slot < slot_count slots.now.shape }
+    requires shape { IsShape shape.now }
+    requires life { life.now.shape ≡ shape.now }
+    requires slots { slots.now.shape ≡ shape.now }
+    requires slot { slot < slot_count shape.now }
     requires lines { (t : ℕ) → t < length notes.now → asked.IsLineHeld (held_in slots.now slot t) }
     requires offset { offset < 16 }
     requires bit { bit < 8 }
-    requires next { line_data.IsNextBelow no_cycle next }
-    ensures { result ≡ line_data.data_class_in needs.now notes.now quiet slots.now cycle slot offset bit held next }
+    requires cycle { cycle < life.now.cycles }
+    requires note { cycle < length notes.now }
+    requires held { held ≡ held_in slots.now slot cycle }
+    requires next { line_data.IsNextBelow no_cycle (next_in life.now slot offset cycle) }
+    ensures {
+        result ≡ line_data.data_class_in needs.now notes.now quiet slots.now cycle slot offset bit held (next_in life.now slot offset cycle)
+    }
 {
     match held {
         Held::Vacant => Class::UnAce(Rule::EmptyPlace),
         Held::Clean(_) => {
+            let next = next_at(life, shape, slot, offset, cycle);
             if is_unread(notes, quiet, needs, slots, slot, offset, bit, next) {
                 Class::UnAce(Rule::CleanData)
             } else {
@@ -137,7 +170,7 @@ fn class_of(
             }
         }
         Held::Dirty(_) => {
-            if is_dead_in(notes, quiet, needs, slots, slot, offset, bit, cycle) {
+            if is_dead_at(notes, quiet, needs, held, offset, bit, cycle) {
                 Class::UnAce(Rule::DeadData)
             } else {
                 Class::Ace
@@ -166,17 +199,17 @@ pub(crate) fn data_class(
     let slot = bit / 128;
     let offset = bit % 128 / 8;
     let held = slots.held(slot, cycle);
-    let next = next_at(life, shape, slot, offset, cycle);
     class_of(
         notes,
         quiet,
         needs,
+        life,
         slots,
+        shape,
         cycle,
         slot,
         offset,
         bit % 8,
         held,
-        next,
     )
 }

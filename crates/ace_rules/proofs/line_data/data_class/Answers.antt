@@ -1,4 +1,4 @@
-use Rattle.std.proofs.Common.{arith, subst, sym}
+use Rattle.std.proofs.Common.{arith, refl, subst, sym}
 use Rattle.bit_field.specs.declared.places.Structure.TheVariants.{CData}
 use Rattle.event_log.specs.declared.next.Next.{Next}
 use Rattle.ace_law.specs.Classes.{IsClass}
@@ -23,9 +23,8 @@ class_of-requires-clause-lines c t below =
 pub class_of-requires-clause-next : goal.class_of-requires-clause-next
 class_of-requires-clause-next c =
     let bit = c.requires.bit in
-    subst (λ (next : Next). line_data.IsNextBelow 4294967295 next) (sym c.next_at-next.ensures)
-    (next-fits c.requires.some.story c.args.needs.now c.args.notes.now c.args.quiet c.args.shape.now c.args.life.now c.args.slots.now
-    c.requires.some.tables c.args.bit (omega (arith, bit)) c.args.cycle)
+    next-fits c.requires.some.story c.args.needs.now c.args.notes.now c.args.quiet c.args.shape.now c.args.life.now c.args.slots.now
+    c.requires.some.tables c.args.bit (omega (arith, bit)) c.args.cycle
 
 pub returns : goal.returns
 returns c story tables =
@@ -35,4 +34,4 @@ returns c story tables =
     subst (λ class. IsClass class (moment story c.args.cycle) (record { structure = CData; bit = c.args.bit })) (sym c.class_of.ensures)
     (data-class story c.args.needs.now c.args.notes.now c.args.quiet c.args.shape.now c.args.life.now c.args.slots.now tables c.args.bit
     (omega (arith, bit)) c.args.cycle (omega
-    (arith, cycle, count)) c.held-held.result c.held-held.ensures c.next_at-next.result c.next_at-next.ensures)
+    (arith, cycle, count)) c.held-held.result c.held-held.ensures _ refl)
