@@ -35,52 +35,43 @@ pub mod sync {
 }
 pub mod collections {
     use crate::alloc::*;
+    use std::collections;
+    use std::hash::Hash;
     use std::ops::{Deref, DerefMut};
-    pub struct BTreeMap<K, V>(std::collections::BTreeMap<K, V>);
-    impl<K: Ord, V> BTreeMap<K, V> {
-        pub fn new(_: Global) -> Self {
-            BTreeMap(std::collections::BTreeMap::new())
-        }
-        pub fn insert(&mut self, k: K, v: V) -> Result<Option<V>, AllocFailed<(K, V)>> {
-            Ok(self.0.insert(k, v))
-        }
+
+    /// A map of std's whose `insert` may want memory; all else is std's own.
+    macro_rules! map_in_memory {
+        ($map:ident, $($key:path),+) => {
+            pub struct $map<K, V>(collections::$map<K, V>);
+            impl<K: $($key +)+, V> $map<K, V> {
+                pub fn new(_: Global) -> Self {
+                    $map(collections::$map::new())
+                }
+                pub fn insert(&mut self, k: K, v: V) -> Result<Option<V>, AllocFailed<(K, V)>> {
+                    Ok(self.0.insert(k, v))
+                }
+            }
+            impl<K, V> Deref for $map<K, V> {
+                type Target = collections::$map<K, V>;
+                fn deref(&self) -> &Self::Target {
+                    &self.0
+                }
+            }
+            impl<K, V> DerefMut for $map<K, V> {
+                fn deref_mut(&mut self) -> &mut Self::Target {
+                    &mut self.0
+                }
+            }
+        };
     }
-    impl<K, V> Deref for BTreeMap<K, V> {
-        type Target = std::collections::BTreeMap<K, V>;
-        fn deref(&self) -> &Self::Target {
-            &self.0
-        }
-    }
-    impl<K, V> DerefMut for BTreeMap<K, V> {
-        fn deref_mut(&mut self) -> &mut Self::Target {
-            &mut self.0
-        }
-    }
+    map_in_memory!(BTreeMap, Ord);
+    map_in_memory!(HashMap, Hash, Eq);
+
     impl<'a, K, V> IntoIterator for &'a BTreeMap<K, V> {
         type Item = (&'a K, &'a V);
-        type IntoIter = std::collections::btree_map::Iter<'a, K, V>;
+        type IntoIter = collections::btree_map::Iter<'a, K, V>;
         fn into_iter(self) -> Self::IntoIter {
             self.0.iter()
-        }
-    }
-    pub struct HashMap<K, V>(std::collections::HashMap<K, V>);
-    impl<K: std::hash::Hash + Eq, V> HashMap<K, V> {
-        pub fn new(_: Global) -> Self {
-            HashMap(std::collections::HashMap::new())
-        }
-        pub fn insert(&mut self, k: K, v: V) -> Result<Option<V>, AllocFailed<(K, V)>> {
-            Ok(self.0.insert(k, v))
-        }
-    }
-    impl<K, V> Deref for HashMap<K, V> {
-        type Target = std::collections::HashMap<K, V>;
-        fn deref(&self) -> &Self::Target {
-            &self.0
-        }
-    }
-    impl<K, V> DerefMut for HashMap<K, V> {
-        fn deref_mut(&mut self) -> &mut Self::Target {
-            &mut self.0
         }
     }
 }
