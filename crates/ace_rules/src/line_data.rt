@@ -52,10 +52,8 @@ fn is_dead_at(
     requires line { cycle < length notes.now → asked.IsLineHeld held }
     requires offset { offset < 16 }
     requires bit { bit < 8 }
-    ensures {
-        (slots : Histories) (slot : ℕ) → held ≡ held_in slots slot cycle
-        → result ≡ line_data.is_dead_in needs.now quiet slots slot offset bit cycle (slice_get notes.now cycle)
-    }
+    ensures { (slots : Histories) (slot : ℕ) → held ≡ held_in slots slot cycle
+        → result ≡ line_data.is_dead_in needs.now quiet slots slot offset bit cycle (slice_get notes.now cycle) }
 {
     match notes.get(cycle as usize) {
         None => true,
@@ -155,9 +153,7 @@ fn class_of(
     requires note { cycle < length notes.now }
     requires held { held ≡ held_in slots.now slot cycle }
     requires next { line_data.IsNextBelow no_cycle (next_in life.now slot offset cycle) }
-    ensures {
-        result ≡ line_data.data_class_in needs.now notes.now quiet slots.now cycle slot offset bit held (next_in life.now slot offset cycle)
-    }
+    ensures { result ≡ line_data.data_class_in needs.now notes.now quiet slots.now cycle slot offset bit held (next_in life.now slot offset cycle) }
 {
     match held {
         Held::Vacant => Class::UnAce(Rule::EmptyPlace),
