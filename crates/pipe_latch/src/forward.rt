@@ -7,7 +7,7 @@ use crate::{ExMem, MemWb};
 use rv_table::Action;
 
 /// An operand in EX: its value, or that a load must be waited for.
-#[derive(Clone, Copy, Debug, PartialEq, Eq)]
+#[derive(Clone, Copy, PartialEq, Eq)]
 pub enum Forwarded {
     Value(u32),
     Wait,

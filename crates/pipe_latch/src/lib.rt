@@ -4,6 +4,8 @@
 // - kinds: what EX/MEM asks of the memory stage, by number;
 // - forward: what forwarding makes of a held value;
 // - execution: what EX makes of the instruction in ID/EX.
+//
+// Its worked rows are tests of machine_rows.
 #![tactic(auto)]
 
 mod ex_mem;
@@ -19,6 +21,3 @@ pub use forward::{Forwarded, late, operand};
 pub use id_ex::{ID_EX_FIELDS, IdEx, IdExField};
 pub use kinds::{EX_MEM_KINDS, ExMemKind};
 pub use mem_wb::{MEM_WB_FIELDS, MemWb, MemWbField};
-
-#[cfg(test)]
-mod tests;
