@@ -274,8 +274,12 @@ fn branch_zero<'s>(code: u8, text: &'s [u8]) -> Option<Statement<'s>>
     ensures sound { IfSome result (λ s. IsSound (shown s)) }
 {
     let (rs, target) = two(text)?;
-    let rs = register(rs)?;
-    Some(Statement::WithLabel(Op::of_registers(code, 0, rs, 0), label(target)?))
+    match (register(rs), label(target)) {
+        (Some(rs), Some(target)) => {
+            Some(Statement::WithLabel(Op::of_registers(code, 0, rs, 0), target))
+        }
+        _ => None,
+    }
 }
 
 /// rd, n
