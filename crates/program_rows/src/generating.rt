@@ -1,5 +1,7 @@
 //! A generated file against one that another program made, by the published PCG32.
-use crate::{GenError, MAX_SIZE, generate};
+use crate::words::has_words;
+use img_gen::{GenError, MAX_SIZE, generate};
+use std::alloc::Global;
 use std::test::Fail;
 
 /// The words of the program of number 7 and size 4.
@@ -25,25 +27,19 @@ const HEADERS: usize = 84;
 #[test]
 fn a_program_is_the_published_generators(rt: HostRuntime) -> Result<(), Fail> {
     let file = generate(rt.alloc(), 7, 4)?;
-    assert_eq!(rt; file.len(), HEADERS + 4 * WORDS.len());
-    for k in 0..WORDS.len() {
-        let at = HEADERS + 4 * k;
-        let word = u32::from_le_bytes([file[at], file[at + 1], file[at + 2], file[at + 3]]);
-        assert_eq!(rt; word, WORDS[k]);
-    }
+    assert!(rt; file.len() == HEADERS + 4 * WORDS.len());
+    assert!(rt; has_words(rt.alloc(), &file, HEADERS, &WORDS)?);
     Ok(())
+}
+
+fn is_bad_size(alloc: Global, size: u32) -> bool {
+    matches!(generate(alloc, 7, size), Err(GenError::BadSize))
 }
 
 #[test]
 fn sizes_out_of_range_are_refused(rt: HostRuntime) -> Result<(), Fail> {
-    assert!(rt; matches!(generate(rt.alloc(), 7, 0), Err(GenError::BadSize)));
-    assert!(rt;
-        matches!(
-            generate(rt.alloc(), 7, MAX_SIZE + 1),
-            Err(GenError::BadSize)
-        )
-    );
+    assert!(rt; is_bad_size(rt.alloc(), 0) && is_bad_size(rt.alloc(), MAX_SIZE + 1));
     let largest = generate(rt.alloc(), 7, MAX_SIZE)?;
-    assert_eq!(rt; largest.len(), HEADERS + 4 * (4_096 + 9));
+    assert!(rt; largest.len() == HEADERS + 4 * (4_096 + 9));
     Ok(())
 }

@@ -1,6 +1,7 @@
 //! A file byte by byte, and what the loader makes of files.
-use crate::{DATA_BASE, TEXT_BASE, write};
-use elf_load::{LoadError, load};
+use elf_load::{Image, LoadError, load};
+use elf_write::{DATA_BASE, TEXT_BASE, write};
+use std::alloc::Global;
 use std::test::Fail;
 
 const MIB: u32 = 1_048_576;
@@ -19,21 +20,28 @@ static FILE: [u8; 92] = [
 #[test]
 fn a_text_part_alone_byte_by_byte(rt: HostRuntime) -> Result<(), Fail> {
     let file = write(rt.alloc(), 0x1_0004, &CODE, &[])?;
-    assert_eq!(rt; file.as_slice(), FILE.as_slice());
+    assert!(rt; file.as_slice() == FILE.as_slice());
     Ok(())
+}
+
+/// The image of a file of both parts.
+fn both_parts(alloc: Global) -> Result<Image, Fail> {
+    let file = write(alloc, TEXT_BASE, &CODE, &[1, 2, 3])?;
+    Ok(load(alloc, &file, MIB)?)
+}
+
+fn has_both_parts(image: &Image) -> bool {
+    let at = (DATA_BASE - TEXT_BASE) as usize;
+    image.entry() == TEXT_BASE
+        && image.fetch(TEXT_BASE / 4) == Some(0x0070_0513)
+        && image.in_ram(DATA_BASE + 2)
+        && image.ram().get(at..at + 4) == Some([1, 2, 3, 0].as_slice())
+        && !image.executable(DATA_BASE)
 }
 
 #[test]
 fn both_parts_are_loaded_where_they_belong(rt: HostRuntime) -> Result<(), Fail> {
-    let file = write(rt.alloc(), TEXT_BASE, &CODE, &[1, 2, 3])?;
-    let image = load(rt.alloc(), &file, MIB)?;
-    assert_eq!(rt; image.entry(), TEXT_BASE);
-    assert_eq!(rt; image.fetch(TEXT_BASE / 4), Some(0x0070_0513));
-    assert!(rt; image.in_ram(DATA_BASE + 2));
-    let at = (DATA_BASE - TEXT_BASE) as usize;
-    assert!(rt; at + 4 <= image.ram().len());
-    assert_eq!(rt; &image.ram()[at..at + 4], [1, 2, 3, 0].as_slice());
-    assert!(rt; !image.executable(DATA_BASE));
+    assert!(rt; has_both_parts(&both_parts(rt.alloc())?));
     Ok(())
 }
 

@@ -1,5 +1,6 @@
 //! Sources by hand: their faults, and the words and bytes of small programs by the RISC-V specification.
-use crate::{AsmError, assemble};
+use crate::words::has_words;
+use rv_asm::{AsmError, assemble};
 use std::alloc::Global;
 use std::test::Fail;
 
@@ -40,19 +41,18 @@ static FAULTY: [Faulty; 21] = [
 ];
 
 #[test]
-fn each_fault_is_the_first(rt: HostRuntime) -> Result<(), Fail> {
+fn each_fault_is_the_first(rt: HostRuntime) {
     for Faulty(source, line, cause) in &FAULTY {
-        assert_eq!(rt; fault(rt.alloc(), source.as_bytes()), (*line, *cause));
+        assert!(rt; fault(rt.alloc(), source.as_bytes()) == (*line, *cause));
     }
-    assert_eq!(rt; fault(rt.alloc(), &[0xFF]), (1, 1));
-    Ok(())
+    assert!(rt; fault(rt.alloc(), &[0xFF]) == (1, 1));
 }
 
 #[test]
 fn a_source_above_1_mib_is_too_long(rt: HostRuntime) -> Result<(), Fail> {
     let mut source = Vec::new(rt.alloc());
     source.resize(1_048_577, b' ')?;
-    assert_eq!(rt; fault(rt.alloc(), &source), (0, 7));
+    assert!(rt; fault(rt.alloc(), &source) == (0, 7));
     Ok(())
 }
 
@@ -60,12 +60,6 @@ fn a_source_above_1_mib_is_too_long(rt: HostRuntime) -> Result<(), Fail> {
 const TEXT_HEADERS: usize = 84;
 
 const BOTH_HEADERS: usize = 116;
-
-/// The word at an offset of a file.
-fn word(file: &[u8], at: usize) -> Option<u32> {
-    let bytes = file.get(at..at.checked_add(4)?)?;
-    Some(u32::from_le_bytes([bytes[0], bytes[1], bytes[2], bytes[3]]))
-}
 
 /// addi a0, zero, 7 · addi a1, a1, -1 · sw t0, 12(s0) · beq a0, zero, -12 · lui a0, 0x12346 and addi a0, a0, -1 · jal zero, -8
 static WORDS: [u32; 7] = [
@@ -78,32 +72,34 @@ static WORDS: [u32; 7] = [
     0xFF9F_F06F,
 ];
 
+/// Spaces and tabs, a comment, a carriage return, a second name of a register, a further form and a label behind.
+const SOURCE: &[u8] =
+    b"_start: addi a0, zero, 7 # seven\r\n\taddi a1 ,a1, -1\nsw t0, 12 ( fp )\nbeqz a0, _start\n\
+    end: li a0, 0x12345FFF\nj end";
+
 #[test]
 fn instructions_are_the_specifications_words(rt: HostRuntime) -> Result<(), Fail> {
     let source = b"_start: addi a0, zero, 7 # seven\n\taddi a1 ,a1, -0x1\n";
-    assert_eq!(rt; fault(rt.alloc(), source), (2, 3));
-    let source =
-        b"_start: addi a0, zero, 7 # seven\r\n\taddi a1 ,a1, -1\nsw t0, 12 ( fp )\nbeqz a0, _start\n\
-        end: li a0, 0x12345FFF\nj end";
-    let file = assemble(rt.alloc(), source.as_slice())?;
-    assert_eq!(rt; file.len(), TEXT_HEADERS + 4 * WORDS.len());
-    for k in 0..WORDS.len() {
-        assert_eq!(rt; word(&file, TEXT_HEADERS + 4 * k), Some(WORDS[k]));
-    }
+    assert!(rt; fault(rt.alloc(), source) == (2, 3));
+    let file = assemble(rt.alloc(), SOURCE)?;
+    assert!(rt; file.len() == TEXT_HEADERS + 4 * WORDS.len());
+    assert!(rt; has_words(rt.alloc(), &file, TEXT_HEADERS, &WORDS)?);
     Ok(())
 }
 
+/// A text part and a data part, with the entry in the middle of the first.
+const BOTH_PARTS: &[u8] =
+    b"nop\n.data\na: .byte -1\nb: .space 2\n.word 0xFFFFFFFF\n.text\n_start: la a0, b\nret\n";
+
+/// LUI a0, 0x80 and ADDI a0, a0, 1; JALR; then the first four of 1 + 2 + 4 bytes.
+static PARTS: [u32; 4] = [0x0008_0537, 0x0015_0513, 0x0000_8067, 0xFF00_00FF];
+
 #[test]
 fn both_parts_and_the_entry(rt: HostRuntime) -> Result<(), Fail> {
-    let source =
-        b"nop\n.data\na: .byte -1\nb: .space 2\n.word 0xFFFFFFFF\n.text\n_start: la a0, b\nret\n";
-    let file = assemble(rt.alloc(), source.as_slice())?;
-    // The entry behind the NOP; LUI a0, 0x80 and ADDI a0, a0, 1; JALR; then 1 + 2 + 4 bytes.
-    assert_eq!(rt; word(&file, 24), Some(0x1_0004));
-    assert_eq!(rt; word(&file, BOTH_HEADERS + 4), Some(0x0008_0537));
-    assert_eq!(rt; word(&file, BOTH_HEADERS + 8), Some(0x0015_0513));
-    assert_eq!(rt; word(&file, BOTH_HEADERS + 12), Some(0x0000_8067));
-    assert_eq!(rt; word(&file, BOTH_HEADERS + 16), Some(0xFF00_00FF));
-    assert_eq!(rt; file.len(), BOTH_HEADERS + 16 + 7);
+    let file = assemble(rt.alloc(), BOTH_PARTS)?;
+    // the entry behind the NOP
+    assert!(rt; has_words(rt.alloc(), &file, 24, &[0x1_0004])?);
+    assert!(rt; has_words(rt.alloc(), &file, BOTH_HEADERS + 4, &PARTS)?);
+    assert!(rt; file.len() == BOTH_HEADERS + 16 + 7);
     Ok(())
 }

@@ -1,9 +1,9 @@
-// Worked rows of this project, by hand from the instructions' meanings, and that each call succeeds with ample memory.
-ghost use Rattle.std.specs.Prelude.{◌≡◌, ◌<◌, ◌*◌, ◌+◌, ◌≤◌, length};
+//! Worked rows of this project, by hand from the instructions' meanings, and that each call succeeds with ample memory.
+ghost use Rattle.std.specs.Prelude.{◌≡◌, ◌<◌};
 
-use super::*;
 use avf_base::{End, Steps, counter};
 use elf_load::{Image, load};
+use rv_isa::{Arch, Trace, access_law, run, run_clocked, words_law};
 use std::alloc::Global;
 use std::fs::Files;
 use std::marker::Brand;
@@ -26,7 +26,7 @@ struct Row {
     count: u32,
 }
 
-const ROWS: [Row; 8] = [
+static ROWS: [Row; 8] = [
     Row {
         words: &[0x0004_2283],
         clocks: &[],
@@ -104,18 +104,19 @@ const ROWS: [Row; 8] = [
     },
 ];
 
-fn check<L: Ledger>(
-    rt: &impl Abort,
-    alloc: Global,
-    row: &Row,
-    applies: &mut Steps<L>,
-) -> Result<(), Fail> {
+/// The trace of a row's run.
+fn trace_of<L: Ledger>(alloc: Global, row: &Row, applies: &mut Steps<L>) -> Result<Trace, Fail> {
     let image = flat(alloc, row.words)?;
-    let trace = run_clocked(alloc, &image, row.limit, row.clocks, applies)?;
-    assert_eq!(rt; trace.end(), row.end);
-    assert!(rt; trace.output() == row.output);
-    assert_eq!(rt; trace.len(), row.count);
-    Ok(())
+    Ok(run_clocked(alloc, &image, row.limit, row.clocks, applies)?)
+}
+
+fn is_so(trace: &Trace, row: &Row) -> bool {
+    trace.end() == row.end && trace.output() == row.output && trace.len() == row.count
+}
+
+/// Whether the state of an image is at its entry, where a jump to address 0 stands.
+fn jumps_to_0<L: Ledger>(arch: &Arch, applies: &mut Steps<L>) -> bool {
+    arch.pc() == 0x1_0000 && arch.effect(&arch.fetch(), applies).next == 0
 }
 
 fn check_all<R: Abort + Files, L: Ledger>(rt: &R, alloc: Global, blank: Blank) -> Result<(), Fail>
@@ -127,15 +128,11 @@ fn check_all<R: Abort + Files, L: Ledger>(rt: &R, alloc: Global, blank: Blank) -
     words_law();
     let mut applies = counter::<R, L>(rt, blank);
     for row in &ROWS {
-        check(rt, alloc, row, &mut applies)?;
+        assert!(rt; is_so(&trace_of(alloc, row, &mut applies)?, row));
     }
     let image = flat(alloc, &[0x0000_0067])?;
-    let unfinished = run(alloc, &image, 1, &mut applies);
-    assert!(rt; unfinished.is_err());
-    let arch = Arch::new(alloc, &image)?;
-    assert_eq!(rt; arch.pc(), 0x1_0000);
-    let effect = arch.effect(&arch.fetch(), &mut applies);
-    assert_eq!(rt; effect.next, 0);
+    assert!(rt; run(alloc, &image, 1, &mut applies).is_err());
+    assert!(rt; jumps_to_0(&Arch::new(alloc, &image)?, &mut applies));
     Ok(())
 }
 
