@@ -21,7 +21,7 @@ pub enum Due {
     End(&'static str),
 }
 
-// The words of a flat image, the words of a command over it, the status, and the text that is due, on `out` for status 0 and on `err` else.
+// The words of a flat image, the words of a command over it, the status, and the text that is due: on `out` for status 0, else on `err`.
 #[derive(Clone, Copy)]
 pub struct Row(pub &'static [u32], pub &'static str, pub u8, pub Due);
 
