@@ -6,7 +6,7 @@ use crate::cycle_rows::{CYCLES, DEAD};
 use crate::fate_rows::fates_hold;
 use crate::fault_rows::faults_hold;
 use crate::flip_rows::FLIPS;
-use crate::generated_rows::{GENERATED, longest_holds};
+use crate::generated_rows::GENERATED;
 use crate::image_rows::{changes_hold, lengths_hold};
 use crate::plan_rows::{DUES, MAPS, PLANS};
 use crate::query_rows::{MEMORY, PIPELINE, REFUSALS};
@@ -39,7 +39,6 @@ enum Subject {
     Memory,
     Reports,
     Generated,
-    Longest,
     Sources,
     Checks,
     Faults,
@@ -76,7 +75,6 @@ fn others_hold<L: Ledger, M: Ledger>(
     match subject {
         Subject::Changes => changes_hold(alloc, steps, applies),
         Subject::Lengths => lengths_hold(alloc, steps, applies),
-        Subject::Longest => longest_holds(alloc, steps, applies),
         Subject::Sources => sources_hold(alloc, steps, applies),
         Subject::Checks => checks_hold(alloc, steps, applies),
         Subject::Faults => faults_hold(alloc, steps, applies),
@@ -158,7 +156,7 @@ fn counts(rt: HostRuntime) {
         &rt,
         Blank::new(1),
         Blank::new(1),
-        &[Subject::Reports, Subject::Generated, Subject::Longest],
+        &[Subject::Reports, Subject::Generated],
     );
 }
 
