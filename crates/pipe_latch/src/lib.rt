@@ -17,7 +17,7 @@ mod mem_wb;
 
 pub use ex_mem::{EX_MEM_FIELDS, ExMem, ExMemField, latch_for};
 pub use execution::{Executed, execute};
-pub use forward::{Forwarded, late, operand};
+pub use forward::{Forwarded, bypass, late, operand};
 pub use id_ex::{ID_EX_FIELDS, IdEx, IdExField};
 pub use kinds::{EX_MEM_KINDS, ExMemKind};
 pub use mem_wb::{MEM_WB_FIELDS, MemWb, MemWbField};
