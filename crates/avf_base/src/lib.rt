@@ -22,6 +22,7 @@ mod end;
 mod failure;
 mod refusal;
 mod steps;
+mod text_buffer;
 mod transfer;
 
 pub use end::End;
@@ -36,6 +37,7 @@ pub use shelf::Shelf;
 pub use sink::Sink;
 pub use std_sink::StdSink;
 pub use steps::{Steps, counter};
+pub use text_buffer::TextBuffer;
 pub use transfer::{ReadError, read_file, write_all};
 
 #[cfg(test)]

@@ -1,10 +1,10 @@
 -- Lines of the map that are written one after the other.
 use Rattle.std.proofs.Common.{◌≡◌, ℕ, ◌+◌, ◌-◌, ◌^◌, ◌<◌, ◌≤◌, List, [], ◌∷◌, ◌++◌, length, take, Option, None, Some, IfSome, refl, sym, ap, ◌∙◌, subst, append_assoc, append-nil, arith}
-use Rattle.std.specs.Prelude.{Result, Ok, Err, OnErr}
-use Rattle.std.proofs.Math.ListN.{length-append}
-use Rattle.std.proofs.Math.Seq.{take-append-add}
+use Rattle.std.specs.Prelude.{Result, Ok, Err, OnErr, OnOk}
+use Rattle.avf_base.specs.Buffers.{GrowsButFor}
 use Rattle.avf_base.specs.Causes.{Rose}
 use Rattle.avf_base.specs.Moves.{Grows, GrowsByFront}
+use Rattle.avf_base.proofs.Buffering.{But-front, But-more, But-rest, But-rest-front, passed_all}
 use Rattle.bit_field.specs.Shapes.{IsShape}
 use Rattle.ace_class.proofs.Sizes.{bits_in_most}
 use Rattle.ace_rules.specs.Notes.{Story}
@@ -48,32 +48,19 @@ text_more story lines line =
 
 -- ---- what was taken so far
 
-grown_more : (a b c : Option (List ℕ)) (xs ys : List ℕ) → Grows a b xs → Grows b c ys → Grows a c (xs ++ ys)
-grown_more a b None xs ys p q = tt
-grown_more a None (Some z) xs ys p q = absurd q
-grown_more None (Some y) (Some z) xs ys p q = absurd p
-grown_more (Some x) (Some y) (Some z) xs ys p q = q ∙ ap (λ l. l ++ ys) p ∙ append_assoc x xs ys
-
-front_more : (a b c : Option (List ℕ)) (xs ys : List ℕ) → Grows a b xs → GrowsByFront b c ys → GrowsByFront a c (xs ++ ys)
-front_more a b c xs ys p q = (
-  length xs + q.0,
-  (let e : length (xs ++ ys) ≡ length xs + length ys = length-append xs ys in let l = q.1 in omega (arith, e, l)),
-  subst (Grows a c) (sym (take-append-add xs ys q.0)) (grown_more a b c xs (take q.0 ys) p q.2),
-)
-
--- the first lines are written, up to this one
-pub record IsSoFar (story : Story) (old new : Option (List ℕ)) (last : Option MapLine) : Type 0 where
+-- the first lines are written, up to this one, but for the end of the text, which is held
+pub record IsSoFar (story : Story) (old new : Option (List ℕ)) (held : List ℕ) (last : Option MapLine) : Type 0 where
   pub lines : List MapLine
   pub first : AreFirst story lines
   pub last_is : last ≡ last_of None lines
-  pub grows : Grows old new (text_of story lines)
+  pub grows : GrowsButFor old new held (text_of story lines)
 
-pub headed : (story : Story) (old new : Option (List ℕ)) → Grows old new (head_text story.r.cycles story.r.instructions) → IsSoFar story old new None
+pub headed : (story : Story) (old new : Option (List ℕ)) → Grows old new (head_text story.r.cycles story.r.instructions) → IsSoFar story old new [] None
 headed story old new h = record {
   lines = [];
   first = tt;
   last_is = refl;
-  grows = subst (Grows old new) (sym (append-nil (head_text story.r.cycles story.r.instructions))) h;
+  grows = passed_all old new (text_of story []) (subst (Grows old new) (sym (append-nil (head_text story.r.cycles story.r.instructions))) h);
 }
 
 pub headed_front : (story : Story) (old new : Option (List ℕ)) → GrowsByFront old new (head_text story.r.cycles story.r.instructions) → IsFrontWritten story old new
@@ -83,28 +70,46 @@ headed_front story old new h = record {
   grows = subst (GrowsByFront old new) (sym (append-nil (head_text story.r.cycles story.r.instructions))) h;
 }
 
-pub one_more : (story : Story) (old new newer : Option (List ℕ)) (last : Option MapLine) (line : MapLine) → IsSoFar story old new last → IsNextLine story last line
-    → Grows new newer (ended (spelled line)) → IsSoFar story old newer (Some line)
-one_more story old new newer last line so next h = record {
+pub one_more : (story : Story) (old new newer : Option (List ℕ)) (held end : List ℕ) (last : Option MapLine) (line : MapLine)
+    → IsSoFar story old new held last → IsNextLine story last line → GrowsButFor new newer end (held ++ ended (spelled line))
+    → IsSoFar story old newer end (Some line)
+one_more story old new newer held end last line so next h = record {
   lines = so.lines ++ line ∷ [];
   first = next_more story None so.lines line so.first (subst (λ (l : Option MapLine). IsNextLine story l line) so.last_is next);
   last_is = sym (last_more None so.lines line);
-  grows = subst (Grows old newer) (sym (text_more story so.lines line)) (grown_more old new newer (text_of story so.lines) (ended (spelled line)) so.grows h);
+  grows =
+      subst (GrowsButFor old newer end) (sym (text_more story so.lines line))
+      (But-more old new newer held (text_of story so.lines) end (ended (spelled line)) so.grows h);
 }
 
-pub one_front : (story : Story) (old new newer : Option (List ℕ)) (last : Option MapLine) (line : MapLine) → IsSoFar story old new last → IsNextLine story last line
-    → GrowsByFront new newer (ended (spelled line)) → IsFrontWritten story old newer
-one_front story old new newer last line so next h = record {
+pub one_front : (story : Story) (old new newer : Option (List ℕ)) (held : List ℕ) (last : Option MapLine) (line : MapLine)
+    → IsSoFar story old new held last → IsNextLine story last line → GrowsByFront new newer (held ++ ended (spelled line))
+    → IsFrontWritten story old newer
+one_front story old new newer held last line so next h = record {
   lines = so.lines ++ line ∷ [];
   first = next_more story None so.lines line so.first (subst (λ (l : Option MapLine). IsNextLine story l line) so.last_is next);
-  grows = subst (GrowsByFront old newer) (sym (text_more story so.lines line)) (front_more old new newer (text_of story so.lines) (ended (spelled line)) so.grows h);
+  grows =
+      subst (GrowsByFront old newer) (sym (text_more story so.lines line))
+      (But-front old new newer held (text_of story so.lines) (ended (spelled line)) so.grows h);
 }
 
-pub written : (story : Story) (old new : Option (List ℕ)) (last : Option MapLine) → IsSoFar story old new last → IsNext story last None → IsMapWritten story old new
-written story old new last so none = record {
+-- what is held is given last
+pub written : {T E : Type 0} (result : Result T E) (story : Story) (old new newer : Option (List ℕ)) (held : List ℕ) (last : Option MapLine)
+    → IsSoFar story old new held last → IsNext story last None → OnOk result (Grows new newer held) → OnOk result (IsMapWritten story old newer)
+written (Err e) story old new newer held last so none h = tt
+written (Ok x) story old new newer held last so none h = record {
   lines = so.lines;
   all = all_next story None so.lines so.first (subst (λ (l : Option MapLine). IsNext story l None) so.last_is none);
-  grows = so.grows;
+  grows = But-rest old new newer held (text_of story so.lines) so.grows h;
+}
+
+pub unwritten : {T E : Type 0} (result : Result T E) (story : Story) (old new newer : Option (List ℕ)) (held : List ℕ) (last : Option MapLine)
+    → IsSoFar story old new held last → OnErr result (GrowsByFront new newer held) → OnErr result (IsFrontWritten story old newer)
+unwritten (Ok x) story old new newer held last so h = tt
+unwritten (Err e) story old new newer held last so h = record {
+  lines = so.lines;
+  first = so.first;
+  grows = But-rest-front old new newer held (text_of story so.lines) so.grows h;
 }
 
 -- ---- the lines end

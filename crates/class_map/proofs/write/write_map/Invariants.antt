@@ -9,7 +9,7 @@ abbrev pub invariant-loop-line : goal.invariant-loop-line
 invariant-loop-line g l = record {
   shape : IsShape l.a.r.shape;
   short : l.a.r.cycles < 2 ^ 32;
-  so_far : IsSoFar l.a (g.K.Sink.taken l.fn.out) (g.K.Sink.taken l.out) l.last;
+  so_far : IsSoFar l.a (g.K.Sink.taken l.fn.out) (g.K.Sink.taken l.out) l.buffer l.last;
   is : IfSome l.last (λ line. IsMapLine l.a line);
   bit : IfSome l.last (λ line. line.place.bit < 2 ^ 17);
   to : IfSome l.last (λ line. line.to < 2 ^ 32);
