@@ -41,7 +41,11 @@ fn add_line<K: Sink>(
 
 // Gives the end of the text to the sink, unless a write failed before.
 #[tactic(auto, using(crate::proofs::MapsWritten::end_way))]
-fn end_text<K: Sink>(so_far: Result<(), Failed>, buffer: &mut TextBuffer, out: &mut K) -> Result<(), Failed>
+fn end_text<K: Sink>(
+    so_far: Result<(), Failed>,
+    buffer: &mut TextBuffer,
+    out: &mut K,
+) -> Result<(), Failed>
     ensures written { (old : Option (List ℕ)) (text : List ℕ) → IsOnItsWay old (K.taken out.old) buffer.old text so_far
         → IsTextWritten old (K.taken out.new) text result }
     ensures cause { (before : ℕ) → HasCause before (K.faults out.old) so_far → HasCause before (K.faults out.new) result }
