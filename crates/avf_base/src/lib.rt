@@ -24,6 +24,7 @@ mod end;
 mod failure;
 mod refusal;
 mod steps;
+mod text_buffer;
 mod transfer;
 
 pub use end::End;
@@ -38,4 +39,5 @@ pub use shelf::Shelf;
 pub use sink::Sink;
 pub use std_sink::StdSink;
 pub use steps::{Steps, counter};
+pub use text_buffer::TextBuffer;
 pub use transfer::{ReadError, read_file, write_all};
