@@ -10,7 +10,7 @@ use std::marker::Model;
 pub const SLOT_BITS: u32 = 64;
 
 /// A fetched instruction, or an empty slot.
-#[derive(Clone, Copy)]
+#[derive(Clone, Copy, PartialEq, Eq)]
 pub struct Slot {
     /// Whether the slot holds an instruction.
     pub valid: bool,
