@@ -14,13 +14,10 @@ use Rattle.need_pass.specs.Tables.{Needs}
 use Rattle.eval_mask.specs.Seems.{no_log}
 use Rattle.ace_law.specs.Moments.{IsTold, Moment, trace}
 use Rattle.ace_rules.specs.Notes.{IsWordMaskOf, bare}
+use Rattle.ace_rules.specs.Walking.{silent}
 use Rattle.ace_rules.specs.Walks.{IsMaskAt}
 use Rattle.ace_law.proofs.Alike.{count_of}
 use Rattle.ace_law.proofs.Told.{entry-below, entry-is, trace-next}
-
--- a state, but for clock values, log and end
-abbrev pub silent : Arch → Arch
-silent at = record at { clocks = []; log = no_log; stop = None }
 
 committed-silent : (effect : Effect) (p q : Arch) → silent p ≡ silent q → silent (committed effect p) ≡ silent (committed effect q)
 unfolding committed

@@ -12,10 +12,11 @@ use Rattle.flush_view.specs.Flush.{path}
 use Rattle.need_pass.specs.Tables.{Needs}
 use Rattle.ace_law.specs.Moments.{IsTold, Moment, executed, retired, state, trace}
 use Rattle.ace_rules.specs.Notes.{IsNote, address_at, IsWordMaskOf, Story, moment}
+use Rattle.ace_rules.specs.Walking.{AreJudged, AreNoted, IsQuietSince, silent}
 use Rattle.ace_rules.specs.Walks.{IsNoteOf, Leaves, on_path_in}
 use Rattle.ace_rules.specs.declared.note.Note.{Note}
 use Rattle.ace_law.proofs.Told.{entry-below, facts}
-use Rattle.ace_rules.proofs.Judged.{bare-silent, silent, silent-next, word-judged}
+use Rattle.ace_rules.proofs.Judged.{bare-silent, silent-next, word-judged}
 use Rattle.ace_rules.proofs.OnPath.{address-in, latch-in, missed-in, on_path-in}
 
 pushed : {A : Type 0} (xs : List A) (x y : A) (i : ℕ) → slice_get (xs ++ x ∷ []) i ≡ Some y → (slice_get xs i ≡ Some y) ⊎ ((i ≡ length xs) × (x ≡ y))
@@ -25,12 +26,6 @@ pushed (z ∷ xs) x y zero e = inl e
 pushed (z ∷ xs) x y (suc i) e = elim (pushed xs x y i e) [ inl h ↦ inl h | inr h ↦ inr (ap suc h.0, h.1) ]
 
 -- ---- the masks of words
-
--- Each instruction so far has its mask, and the instruction set's state is that behind them.
-pub record AreJudged (story : Story) (table : Needs) (arch : ArchState) (words : List ℕ) : Type 0 where
-  pub image : arch.image ≡ story.r.image
-  pub stands : silent (state_of arch) ≡ silent (trace (moment story 0) (length words))
-  pub word : (i mask : ℕ) → slice_get words i ≡ Some mask → IsWordMaskOf (moment story 0) table i mask
 
 reset-silent : (image : LoadedImage) (clocks : List ℕ) → silent (arch_reset image []) ≡ silent (after image 0 (arch_reset image clocks))
 unfolding after arch_reset
@@ -104,10 +99,6 @@ module _ (a : Moment) (table : Needs) (told : IsTold a.r a.run table) (below : a
     masks = record { arch = arch; image = image; stands = bare-silent arch (trace a (retired a)) stands retired-running; exact = is.masks };
   }
 
-pub record AreNoted (story : Story) (table : Needs) (t : ℕ) (notes : List Note) : Type 0 where
-  pub cycles : length notes ≡ t
-  pub each : (k : ℕ) (note : Note) → slice_get notes k ≡ Some note → IsNote (moment story k) table note
-
 pub noted_start : (story : Story) (table : Needs) → AreNoted story table 0 []
 noted_start story table = record { cycles = refl; each = λ k note h. absurd cc }
 
@@ -124,11 +115,6 @@ noted_on story table t notes note is before = record {
 }
 
 -- ---- the first quiet cycle
-
--- in the cycles below it a read of the cycle counter is to come, in the others below t none is
-pub record IsQuietSince (story : Story) (last t quiet : ℕ) : Type 0 where
-  pub loud : (k : ℕ) → k < quiet → executed (moment story k) < last
-  pub still : (k : ℕ) → k < t → quiet ≤ k → last ≤ executed (moment story k)
 
 pub quiet_start : (story : Story) (last : ℕ) → IsQuietSince story last 0 0
 quiet_start story last = record { loud = λ k l. absurd (omega (arith, l)); still = λ k l h. absurd (omega (arith, l)) }

@@ -8,7 +8,7 @@ use Rattle.elf_load.specs.Image.{LoadedImage}
 use Rattle.rv_isa.specs.Architecture.{ArchState, state_of}
 use Rattle.rv_isa.specs.Effects.{CanCommit}
 use Rattle.rv_isa.specs.declared.effect.Retired.{Retired}
-use Rattle.rv_isa.specs.Runs.{reset as arch_reset}
+use Rattle.rv_isa.specs.Runs.{ProgramTrace, reset as arch_reset}
 use Rattle.cyc_machine.specs.declared.fate.Fate.{Fate}
 use Rattle.cyc_machine.specs.declared.fate.Fate.TheVariants.{Absent, Dropped, Stays, Goes}
 use Rattle.cyc_machine.specs.Cycle.{cycle, cycled, fate, issued_from, retires, served_m}
@@ -23,25 +23,15 @@ use Rattle.flush_view.proofs.Run.RunCounts.{left-next, left-retired, retired-lef
 use Rattle.pipe_latch.specs.Latches.{DecodedLatch}
 use Rattle.ace_law.specs.Moments.{IsQuiet, IsTold, Moment, executed, moved, retired, state, trace}
 use Rattle.ace_rules.specs.Notes.{AreNotes, Story, moment}
-use Rattle.ace_rules.specs.Walks.{IsInOrder, IsLastClock, IsNoteOf, Leaves}
+use Rattle.ace_rules.specs.Walking.{AreJudged, IsQuietSince, IsSomeWalk, IsWalk, IsWalked, silent}
+use Rattle.ace_rules.specs.Walks.{IsInOrder, IsLastClock, IsNoteOf, Leaves, story_of}
 use Rattle.ace_rules.specs.declared.note.Note.{Note}
+use Rattle.ace_rules.specs.declared.walk.Walker.{Walker}
 use Rattle.ace_law.proofs.Told.{count-same, executed-within, facts, running-below, state-cycle, state-machine}
 use Rattle.ace_law.proofs.Told.{state-running}
 use Rattle.ace_rules.proofs.Clocks.{quiet_from, quiet_not}
-use Rattle.ace_rules.proofs.Judged.{entry-commits, silent}
-use Rattle.ace_rules.proofs.Noted.{AreJudged, AreNoted, IsQuietSince, judged_on, judged_start, note-is, noted_on, noted_start, quiet_on, quiet_start}
-
--- The machine stands before cycle t, and x instructions have left EX; the instruction set's state is that once MEM/WB is completed.
-pub record IsWalked (story : Story) (table : Needs) (last t : ℕ) (machine : State) (arch : ArchState) (x : ℕ) (notes : List Note)
-    (words : List ℕ) (quiet : ℕ) : Type 0 where
-  pub state : machine ≡ state (moment story t)
-  pub left : x ≡ executed (moment story t)
-  pub done : length words ≡ retired (moment story t)
-  pub rises : (k : ℕ) → k ≤ t → executed (moment story k) ≤ x
-  pub few : x ≤ t
-  pub judged : AreJudged story table arch words
-  pub noted : AreNoted story table t notes
-  pub quiets : IsQuietSince story last t quiet
+use Rattle.ace_rules.proofs.Judged.{entry-commits}
+use Rattle.ace_rules.proofs.Noted.{judged_on, judged_start, note-is, noted_on, noted_start, quiet_on, quiet_start}
 
 -- ---- positions
 
@@ -307,13 +297,61 @@ module _ (story : Story) (table : Needs) (told : IsTold story.r story.run table)
         let done = w.done in
         omega (arith, within, done)
 
-pub applies-left : (b : Bool) (new old args n count : ℕ) → new ≤ old + (if b then 33 else 0) → old ≤ args + 33 * n → n ≤ count → (b ≡ true
-    → n < count)
-    → new ≤ args + 33 * count
-applies-left true new old args n count l m k some = let below = some refl in omega (arith, l, m, below)
-applies-left false new old args n count l m k some = omega (arith, l, m, k)
+-- the walk at its end
+pub walk_end : (story : Story) (table : Needs) → IsTold story.r story.run table → (walker : Walker) → IsWalk story table story.r.cycles walker
+    → AreNotes story table walker.notes.cycles.items walker.notes.words.items walker.notes.quiet
+walk_end story table told walker walk =
+    walked_end story table told walker.last walker.machine walker.arch walker.executed walker.notes.cycles.items walker.notes.words.items
+    walker.notes.quiet walk.clock walk.walked
 
-pub applies-kept : (b : Bool) (new old args n count : ℕ) → new ≤ old + (if b then 33 else 0) → old ≤ args + 33 * n → count ≡ (if b then n + 1 else n)
-    → new ≤ args + 33 * count
-applies-kept true new old args n count l m e = omega (arith, l, m, e)
-applies-kept false new old args n count l m e = omega (arith, l, m, e)
+-- the walk of some run
+module _ (run : ProgramTrace) (table : Needs) (t : ℕ) (walker : Walker) (some : IsSomeWalk run table t walker) where
+  pub walk-order : IsInOrder walker.machine.buffer
+  walk-order =
+      walked-order (story_of some.r run) table some.told walker.last t walker.executed walker.machine walker.arch walker.notes.cycles.items
+      walker.notes.words.items walker.notes.quiet some.walk.walked some.below
+
+  pub walk-within : walker.executed ≤ table.count
+  walk-within =
+      walked-within (story_of some.r run) table some.told walker.last t walker.executed walker.machine walker.arch walker.notes.cycles.items
+      walker.notes.words.items walker.notes.quiet some.walk.walked some.below
+
+  pub walk-running : walker.machine.ended ≡ false
+  walk-running =
+      walked-running (story_of some.r run) table some.told walker.last t walker.executed walker.machine walker.arch walker.notes.cycles.items
+      walker.notes.words.items walker.notes.quiet some.walk.walked some.below
+
+  pub walk-cycle : walker.machine.cycle < 2 ^ 31
+  walk-cycle =
+      walked-cycle (story_of some.r run) table some.told walker.last t walker.executed walker.machine walker.arch walker.notes.cycles.items
+      walker.notes.words.items walker.notes.quiet some.walk.walked some.below
+
+  pub walk-leaves : retires walker.machine ≡ true → length walker.notes.words.items < length run.entries
+  walk-leaves =
+      walked-leaves (story_of some.r run) table some.told walker.last t walker.executed walker.machine walker.arch walker.notes.cycles.items
+      walker.notes.words.items walker.notes.quiet some.walk.walked some.below
+
+  pub walk-commits : (entry : Retired) → slice_get run.entries (length walker.notes.words.items) ≡ Some entry
+      → CanCommit walker.arch.image entry.effect
+  walk-commits =
+      walked-commits (story_of some.r run) table some.told walker.last t walker.executed walker.machine walker.arch walker.notes.cycles.items
+      walker.notes.words.items walker.notes.quiet some.walk.walked some.below
+
+  pub walk-words : length walker.notes.words.items ≤ length run.entries
+  walk-words =
+      walked-words (story_of some.r run) table some.told walker.last t walker.executed walker.machine walker.arch walker.notes.cycles.items
+      walker.notes.words.items walker.notes.quiet some.walk.walked some.below
+
+  pub walk-count : (leaves : Bool) (arch next : ArchState) (words masks : List ℕ) → (leaves ≡ true → Leaves table run.entries arch next words masks)
+      → (leaves ≡ false → masks ≡ words) → length masks ≡ (if leaves then length words + 1 else length words)
+  walk-count = masks-count (story_of some.r run) table some.told walker.last
+
+pub applies-left : (b : Bool) (new old n count : ℕ) → new ≤ old + (if b then 33 else 0) → n ≤ count → (b ≡ true → n < count)
+    → new + 33 * n ≤ old + 33 * count
+applies-left true new old n count l k some = let below = some refl in omega (arith, l, below)
+applies-left false new old n count l k some = omega (arith, l, k)
+
+pub applies-kept : (b : Bool) (new old n count : ℕ) → new ≤ old + (if b then 33 else 0) → count ≡ (if b then n + 1 else n)
+    → new + 33 * n ≤ old + 33 * count
+applies-kept true new old n count l e = omega (arith, l, e)
+applies-kept false new old n count l e = omega (arith, l, e)

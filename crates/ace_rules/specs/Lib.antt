@@ -1,6 +1,7 @@
 pub mod Notes
 pub mod Situations
 pub mod Walks
+pub mod Walking
 pub mod FirstRules
 pub mod PipelineTests
 pub mod FetchedTests

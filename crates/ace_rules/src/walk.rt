@@ -1,17 +1,20 @@
 // The walk of a machine beside a record: of each cycle a note, of each instruction the mask of its word, and the first quiet cycle.
 ghost use Rattle.std.specs.Prelude.{◌≡◌, ◌↔◌, ◌+◌, ◌*◌, ◌-◌, ◌/◌, ◌<◌, ◌≤◌, ◌^◌, true, IfOk, is_some};
-ghost use Rattle.std.specs.Prelude.{length, nat_lt, slice_get, option_map, if◌then◌else◌};
+ghost use Rattle.std.specs.Prelude.{OnOk, [], length, nat_lt, slice_get, option_map, if◌then◌else◌};
+ghost use Rattle.bit_field.specs.Shapes.{IsShape};
 ghost use Rattle.rv_table.specs.Effects.{written_register};
 ghost use Rattle.pipe_latch.specs.LatchedActions.{action_of, kind_of};
 ghost use Rattle.pipe_latch.specs.declared.kinds.ExMemKind.TheVariants.{Trap};
 ghost use Rattle.rv_table.specs.Actions as rv;
 ghost use Rattle.ace_law.specs.Moments.{IsTold};
+ghost use Rattle.need_pass.specs.Tables.{Needs};
 ghost use Rattle.ace_rules.specs.Notes.{AreNotes};
+ghost use Rattle.ace_rules.specs.Walking.{GoesOn, IsSomeWalk, IsWalk};
 ghost use Rattle.ace_rules.specs.Walks.{IsInOrder, IsLastClock, IsNoteWith, story_of};
 
 use crate::note::Note;
 use crate::path::{count_on_path, path_address};
-use crate::situation::{kept, masked};
+use crate::situation::{MaskedLatches, kept, masked};
 use crate::words::leave_if;
 use avf_base::{OutOfMemory, Steps};
 use cyc_machine::{CycleReport, Machine};
@@ -125,6 +128,100 @@ fn count_after(x: u32, report: &CycleReport) -> u32
     if report.issued.is_some() { x + 1 } else { x }
 }
 
+/// A machine and an instruction set's state that go side by side, and what is kept of the run so far.
+#[derive(Drop)]
+struct Walker<'i> {
+    machine: Machine<'i>,
+    /// The instruction set's state once MEM/WB is completed.
+    arch: Arch<'i>,
+    /// How many instructions have left EX.
+    executed: u32,
+    /// The number after the last read of the cycle counter in the run.
+    last: u32,
+    /// The masks that are kept of the cycle before.
+    kept: Option<MaskedLatches>,
+    notes: Notes,
+}
+
+/// Nothing noted yet.
+fn no_notes(alloc: Global) -> Notes
+    ensures cycles { result.cycles.items ≡ [] }
+    ensures words { result.words.items ≡ [] }
+    ensures quiet { result.quiet ≡ 0 }
+{
+    Notes {
+        cycles: Vec::new(alloc),
+        words: Vec::new(alloc),
+        quiet: 0,
+    }
+}
+
+/// A machine and an instruction set's state at reset.
+fn start<'i>(
+    alloc: Global,
+    recorded: &Recorded<'i>,
+    trace: &Trace,
+) -> Result<Walker<'i>, OutOfMemory>
+    requires { IsShape recorded.now.shape }
+    ensures { IfOk result (λ walker. (table : Needs) → IsTold recorded.now trace.now table → IsWalk (story_of recorded.now trace.now) table 0 walker) }
+{
+    let last = last_clock(trace);
+    match Machine::shaped(alloc, recorded.image(), &recorded.shape()) {
+        Err(error) => Err(error),
+        Ok(machine) => match Arch::new(alloc, recorded.image()) {
+            Err(error) => Err(error),
+            Ok(arch) => Ok(Walker {
+                machine,
+                arch,
+                executed: 0,
+                last,
+                kept: None,
+                notes: no_notes(alloc),
+            }),
+        },
+    }
+}
+
+/// Cycle `t`: its note, the machine's step, and what the instruction that leaves the memory stage does. It takes a step, and at most 33
+/// applications for an instruction that leaves.
+fn note_cycle<L: Ledger, M: Ledger>(
+    walker: &mut Walker<'_>,
+    trace: &Trace,
+    needs: &NeedTable,
+    t: u32,
+    steps: &mut Steps<L>,
+    applies: &mut Steps<M>,
+) -> Result<(), OutOfMemory>
+    requires { IsSomeWalk trace.now needs.now t walker.old }
+    ensures goes { OnOk result (GoesOn trace.now needs.now t walker.old walker.new) }
+    ensures steps { steps.new ≤ steps.old + 1 }
+    ensures applies { applies.new + 33 * length walker.old.notes.words.items ≤ applies.old + 33 * length trace.now.entries }
+    ensures counted { OnOk result (applies.new + 33 * length walker.old.notes.words.items ≤ applies.old + 33 * length walker.new.notes.words.items) }
+{
+    let now = masked(
+        &walker.machine,
+        walker.executed,
+        &walker.kept,
+        &walker.arch,
+        needs,
+    );
+    let note = note_of(&walker.machine, trace, walker.executed, now.masks);
+    walker.notes.cycles.push(note)?;
+    walker.notes.quiet = quiet_after(walker.notes.quiet, t, walker.executed, walker.last);
+    let report = walker.machine.step(steps);
+    walker.executed = count_after(walker.executed, &report);
+    leave_if(
+        report.retired,
+        &mut walker.arch,
+        trace,
+        needs,
+        &mut walker.notes.words,
+        applies,
+    )?;
+    walker.kept = kept(report.retired, &now);
+    Ok(())
+}
+
 /// The notes of a recorded run: a machine goes from reset as the recorded one went, and beside it an instruction set's state goes on by
 /// the effects of the trace. It takes as many steps as the run has cycles, and at most 33 applications an instruction.
 pub fn note_run<L: Ledger, M: Ledger>(
@@ -140,26 +237,9 @@ pub fn note_run<L: Ledger, M: Ledger>(
     ensures steps { steps.new ≤ steps.old + recorded.now.cycles }
     ensures applies { applies.new ≤ applies.old + 33 * length trace.now.entries }
 {
-    let last = last_clock(trace);
-    let mut machine = Machine::shaped(alloc, recorded.image(), &recorded.shape())?;
-    let mut arch = Arch::new(alloc, recorded.image())?;
-    let mut cycles = Vec::new(alloc);
-    let mut words = Vec::new(alloc);
-    let mut quiet = 0;
-    let mut executed = 0;
-    let mut kept_masks = None;
+    let mut walker = start(alloc, recorded, trace)?;
     for t in 0..recorded.cycles() {
-        let now = masked(&machine, executed, &kept_masks, &arch, needs);
-        cycles.push(note_of(&machine, trace, executed, now.masks))?;
-        quiet = quiet_after(quiet, t, executed, last);
-        let report = machine.step(steps);
-        executed = count_after(executed, &report);
-        leave_if(report.retired, &mut arch, trace, needs, &mut words, applies)?;
-        kept_masks = kept(report.retired, &now);
+        note_cycle(&mut walker, trace, needs, t, steps, applies)?;
     }
-    Ok(Notes {
-        cycles,
-        words,
-        quiet,
-    })
+    Ok(walker.notes)
 }

@@ -1,2 +1,3 @@
+pub mod Buffering
 mod Growing
 mod Reading

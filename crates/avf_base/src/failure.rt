@@ -2,7 +2,7 @@
 use std::alloc::{AllocError, AllocFailed};
 
 /// A read or a write failed, and the count of faults of its object rose.
-#[derive(Clone, Copy, Debug, PartialEq, Eq)]
+#[derive(Clone, Copy, PartialEq, Eq)]
 pub struct Failed;
 
 /// There was no memory.

@@ -1,5 +1,7 @@
 // What every crate of the analyser stands on: files and streams behind two traits, whole files and whole texts over
 // them, how a program ends, why the tool refuses, and counters of work.
+//
+// Its worked rows are tests of machine_rows.
 #![tactic(auto)]
 
 // A source of files, and its kinds: in memory with faults, in memory without, and real files.
@@ -22,6 +24,7 @@ mod end;
 mod failure;
 mod refusal;
 mod steps;
+mod text_buffer;
 mod transfer;
 
 pub use end::End;
@@ -36,7 +39,5 @@ pub use shelf::Shelf;
 pub use sink::Sink;
 pub use std_sink::StdSink;
 pub use steps::{Steps, counter};
+pub use text_buffer::TextBuffer;
 pub use transfer::{ReadError, read_file, write_all};
-
-#[cfg(test)]
-mod tests;

@@ -2,6 +2,8 @@
 //
 // - text: the report;
 // - table: the same counts as comma-separated values.
+//
+// Its worked rows are tests of run_rows.
 #![tactic(auto)]
 
 mod table;
@@ -9,6 +11,3 @@ mod text;
 
 pub use table::report_csv;
 pub use text::report_text;
-
-#[cfg(test)]
-mod tests;

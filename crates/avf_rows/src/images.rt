@@ -1,4 +1,4 @@
-// Images to run: ELF files of one executable segment at 0x10000, where the program begins.
+// Files to run: ELF files of one executable segment at 0x10000, where the program begins, and files of one byte over and over.
 use elf_fixture::{Header, THREE, bytes_of, file, flat};
 use std::alloc::{AllocError, Global};
 
@@ -26,7 +26,7 @@ pub fn changed(alloc: Global, changes: &[(usize, u8)]) -> Result<Vec<u8>, AllocE
     Ok(file)
 }
 
-// A file of this many zero bytes.
-pub fn zeros(alloc: Global, len: usize) -> Result<Vec<u8>, AllocError> {
-    vec![in alloc; 0u8; len]
+// A file of this byte so many times.
+pub fn filled(alloc: Global, byte: u8, len: usize) -> Result<Vec<u8>, AllocError> {
+    vec![in alloc; byte; len]
 }

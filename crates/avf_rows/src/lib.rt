@@ -4,11 +4,19 @@
 #[cfg(test)]
 mod check_rows;
 #[cfg(test)]
+mod cycle_rows;
+#[cfg(test)]
 mod fate_rows;
 #[cfg(test)]
 mod fault_rows;
 #[cfg(test)]
+mod faults;
+#[cfg(test)]
 mod flip_rows;
+#[cfg(test)]
+mod generated_rows;
+#[cfg(test)]
+mod image_rows;
 #[cfg(test)]
 mod images;
 #[cfg(test)]
@@ -22,4 +30,8 @@ mod rows;
 #[cfg(test)]
 mod source_rows;
 #[cfg(test)]
+mod subjects;
+#[cfg(test)]
 mod turn_rows;
+#[cfg(test)]
+mod word_rows;

@@ -1,13 +1,9 @@
 // Rows of `asm`: sources, and the images or the faults that they give.
-ghost use Rattle.std.specs.Prelude.{◌≡◌, ◌<◌};
-
-use crate::rows::{Given, call, row, words};
-use avf_base::{Steps, counter};
+use crate::images::filled;
+use crate::rows::{Due, Given, Row, call, gives};
+use avf_base::{OutOfMemory, Steps};
 use std::alloc::{AllocError, Global};
-use std::marker::Brand;
-use std::process::Abort;
-use std::rt::Files;
-use std::sync::ledger::{Blank, Ledger};
+use std::sync::ledger::Ledger;
 
 // Fills a table with 1 to 64, and prints their sum.
 const SUM: &str = "\
@@ -56,122 +52,203 @@ ret\n\
 .data\n\
 table: .space 256\n";
 
-// What a call of `asm` on this source gives.
-fn asm<R: Abort + AllocGlobal, L: Ledger, M: Ledger>(
-    rt: &R,
-    steps: &mut Steps<L>,
-    applies: &mut Steps<M>,
-    source: &[u8],
-) -> Given {
-    let alloc = rt.alloc();
-    let words = words(alloc, "asm a.s").expect(rt, "ample memory");
-    call(alloc, &words, "a.s", source, steps, applies).expect(rt, "ample memory")
+// The run and the report of its image.
+static SUM_ROWS: [Row; 2] = [
+    Row(
+        &[],
+        "run a.elf 100000",
+        0,
+        Due::Whole("output 32303830\nend exit 0\ninstructions 721\n"),
+    ),
+    Row(&[], "report a.elf 100000", 0, Due::Whole(SUM_REPORT)),
+];
+
+const SUM_REPORT: &str = "\
+cycles 947\n\
+instructions 721\n\
+end exit 0\n\
+structure bits ace ppm\n\
+pc 30 0 0\n\
+npc 30 28410 1000000\n\
+bht 128 0 0\n\
+btb 912 0 0\n\
+ib 256 72169 297687\n\
+idex 153 57591 397478\n\
+exmem 79 25671 343135\n\
+memwb 37 18502 528040\n\
+rf 992 81995 87282\n\
+sb 264 25040 100156\n\
+port 6 0 0\n\
+cdata 8192 771032 99387\n\
+ctag 1472 148189 106306\n\
+cvalid 64 6443 106306\n\
+cdirty 64 6443 106306\n\
+clru 32 0 0\n\
+total 12711 1241485 103136\n\
+U1 1054011\n\
+U2 7567212\n\
+U3 12354\n\
+U4 103440\n\
+U5 86105\n\
+U6 857429\n\
+U7 885584\n\
+U8 13632\n\
+U9 2560\n\
+U10 40\n\
+U11 210581\n\
+U12 0\n\
+U13 2884\n\
+";
+
+// How many instructions the largest text part has.
+const MOST: u32 = 114_688;
+
+// The program of so many NOPs runs on behind them.
+static LARGEST: [Row; 1] = [Row(
+    &[],
+    "run a.elf 1000000",
+    0,
+    Due::Whole("output -\nend trap 1\ninstructions 114689\n"),
+)];
+
+// A source, and what `asm` tells of its fault.
+struct Faulty(&'static [u8], &'static str);
+
+static FAULTS: [Faulty; 10] = [
+    Faulty(b"foo", "avf: bad source 1 2\n"),
+    Faulty(b"addi x1, x2", "avf: bad source 1 3\n"),
+    Faulty(b"addi x1, x2, 4096", "avf: bad source 1 4\n"),
+    Faulty(b"addi x1, x2, 2048", "avf: bad source 1 4\n"),
+    Faulty(b"j nowhere", "avf: bad source 1 6\n"),
+    Faulty(b"a: nop\na: nop", "avf: bad source 2 5\n"),
+    Faulty(b"nop\xFF", "avf: bad source 1 1\n"),
+    Faulty(b".byte 1", "avf: bad source 1 3\n"),
+    Faulty(b".data", "avf: bad source 0 7\n"),
+    Faulty(b"", "avf: bad source 0 7\n"),
+];
+
+// Whether a call of `asm` gave an image.
+fn is_image(given: &Given) -> bool {
+    given.status == 0 && given.err.kept().is_empty()
 }
 
-// What `asm` writes for a source without a fault.
-fn assembled<R: Abort + AllocGlobal, L: Ledger, M: Ledger>(
-    rt: &R,
+// Whether `asm` gives an image of this source, and commands over it give what the rows say.
+fn image_holds<L: Ledger, M: Ledger>(
+    alloc: Global,
+    source: &[u8],
+    rows: &[Row],
     steps: &mut Steps<L>,
     applies: &mut Steps<M>,
-    source: &[u8],
-) -> Vec<u8> {
-    let given = asm(rt, steps, applies, source);
-    assert_eq!(rt; given.status, 0);
-    assert!(rt; given.err.kept().is_empty());
-    Vec::from_slice(rt.alloc(), given.out.kept()).expect(rt, "ample memory")
+) -> Result<bool, OutOfMemory> {
+    let given = call(alloc, "asm a.s", source, steps, applies)?;
+    for row in rows {
+        if !gives(alloc, given.out.kept(), row, steps, applies)? {
+            return Ok(false);
+        }
+    }
+    Ok(is_image(&given))
 }
 
-// The image of a program, and its run.
-fn programs<R: Abort + AllocGlobal, L: Ledger, M: Ledger>(
-    rt: &R,
+// Whether `asm` refuses this source so.
+fn is_refused<L: Ledger, M: Ledger>(
+    alloc: Global,
+    source: &[u8],
+    told: &'static str,
     steps: &mut Steps<L>,
     applies: &mut Steps<M>,
-) {
-    let image = assembled(rt, steps, applies, SUM.as_bytes());
-    let text = "output 32303830\nend exit 0\ninstructions 721\n";
-    row(rt, steps, applies, "run a.elf 100000", &image, 0, text);
+) -> Result<bool, OutOfMemory> {
+    let row = Row(&[], "asm a.s", 9, Due::Whole(told));
+    gives(alloc, source, &row, steps, applies)
 }
 
 // One instruction and then blanks, in so many bytes.
 fn long_source(alloc: Global, len: usize) -> Result<Vec<u8>, AllocError> {
-    let mut source = vec![in alloc; b' '; len]?;
+    let mut source = filled(alloc, b' ', len)?;
     for (place, byte) in source.iter_mut().zip(b"nop") {
         *place = *byte;
     }
     Ok(source)
 }
 
-// Asserts that `asm` refuses this source, with this line and cause.
-fn refused<R: Abort + AllocGlobal, L: Ledger, M: Ledger>(
-    rt: &R,
-    steps: &mut Steps<L>,
-    applies: &mut Steps<M>,
-    source: &[u8],
-    told: &str,
-) {
-    let line = format!(in rt.alloc(); "avf: bad source {told}\n").expect(rt, "ample memory");
-    let given = asm(rt, steps, applies, source);
-    assert_eq!(rt; given.status, 9, "{told}");
-    assert!(rt; given.err.kept() == line.as_bytes(), "{told}");
-    assert!(rt; given.out.kept().is_empty(), "{told}");
-}
-
-// Rows of sources with a fault.
-fn faults<R: Abort + AllocGlobal, L: Ledger, M: Ledger>(
-    rt: &R,
-    steps: &mut Steps<L>,
-    applies: &mut Steps<M>,
-) {
-    let rows: [(&[u8], &str); 10] = [
-        (b"foo", "1 2"),
-        (b"addi x1, x2", "1 3"),
-        (b"addi x1, x2, 4096", "1 4"),
-        (b"addi x1, x2, 2048", "1 4"),
-        (b"j nowhere", "1 6"),
-        (b"a: nop\na: nop", "2 5"),
-        (b"nop\xFF", "1 1"),
-        (b".byte 1", "1 3"),
-        (b".data", "0 7"),
-        (b"", "0 7"),
-    ];
-    for (source, told) in rows {
-        refused(rt, steps, applies, source, told);
+// So many NOPs.
+fn nops(alloc: Global, count: u32) -> Result<Vec<u8>, AllocError> {
+    let mut source = Vec::new(alloc);
+    for _ in 0..count {
+        source.extend_from_slice(b"nop\n")?;
     }
+    Ok(source)
 }
 
-// The longest source, and sources that are longer by a byte.
-fn lengths<R: Abort + AllocGlobal, L: Ledger, M: Ledger>(
-    rt: &R,
+// Whether the two calls gave the same image.
+fn are_same(one: &Given, other: &Given) -> bool {
+    is_image(one) && is_image(other) && one.out.kept() == other.out.kept()
+}
+
+// Whether one instruction has the same image alone and in the longest source.
+fn longest_holds<L: Ledger, M: Ledger>(
+    alloc: Global,
     steps: &mut Steps<L>,
     applies: &mut Steps<M>,
-) {
-    let alloc = rt.alloc();
-    let short = assembled(rt, steps, applies, b"nop");
-    let longest = long_source(alloc, 1_048_576).expect(rt, "ample memory");
-    let image = assembled(rt, steps, applies, &longest);
-    assert!(rt; image == short);
-    let longer = long_source(alloc, 1_048_577).expect(rt, "ample memory");
-    refused(rt, steps, applies, &longer, "0 7");
-    let blank = vec![in alloc; b' '; 1_048_577].expect(rt, "ample memory");
-    refused(rt, steps, applies, &blank, "0 7");
+) -> Result<bool, OutOfMemory> {
+    let short = call(alloc, "asm a.s", b"nop", steps, applies)?;
+    let source = long_source(alloc, 1_048_576)?;
+    let long = call(alloc, "asm a.s", &source, steps, applies)?;
+    Ok(are_same(&short, &long))
 }
 
-fn all<R: Abort + AllocGlobal + Files, L: Ledger, M: Ledger>(rt: &R, one: Blank, other: Blank)
-    requires one_name { one.name ≡ L.name }
-    requires one_parts { one.parts ≡ L.parts }
-    requires one_some { 0 < L.parts }
-    requires other_name { other.name ≡ M.name }
-    requires other_parts { other.parts ≡ M.parts }
-    requires other_some { 0 < M.parts }
-{
-    let mut steps = counter::<R, L>(rt, one);
-    let mut applies = counter::<R, M>(rt, other);
-    programs(rt, &mut steps, &mut applies);
-    faults(rt, &mut steps, &mut applies);
-    lengths(rt, &mut steps, &mut applies);
+// Whether sources that are longer by a byte are refused.
+fn longer_refused<L: Ledger, M: Ledger>(
+    alloc: Global,
+    steps: &mut Steps<L>,
+    applies: &mut Steps<M>,
+) -> Result<bool, OutOfMemory> {
+    let longer = long_source(alloc, 1_048_577)?;
+    if !is_refused(alloc, &longer, "avf: bad source 0 7\n", steps, applies)? {
+        return Ok(false);
+    }
+    let blank = filled(alloc, b' ', 1_048_577)?;
+    is_refused(alloc, &blank, "avf: bad source 0 7\n", steps, applies)
 }
 
-#[test]
-fn sources(rt: HostRuntime) {
-    all::<HostRuntime, Brand, Brand>(&rt, Blank::new(1), Blank::new(1));
+// Whether the largest text part has its image, and one more instruction is refused.
+fn largest_holds<L: Ledger, M: Ledger>(
+    alloc: Global,
+    steps: &mut Steps<L>,
+    applies: &mut Steps<M>,
+) -> Result<bool, OutOfMemory> {
+    let largest = nops(alloc, MOST)?;
+    if !image_holds(alloc, &largest, &LARGEST, steps, applies)? {
+        return Ok(false);
+    }
+    let larger = nops(alloc, MOST + 1)?;
+    is_refused(alloc, &larger, "avf: bad source 0 7\n", steps, applies)
+}
+
+// Whether the sources with a fault are refused.
+fn faults_refused<L: Ledger, M: Ledger>(
+    alloc: Global,
+    steps: &mut Steps<L>,
+    applies: &mut Steps<M>,
+) -> Result<bool, OutOfMemory> {
+    for Faulty(source, told) in &FAULTS {
+        if !is_refused(alloc, source, told, steps, applies)? {
+            return Ok(false);
+        }
+    }
+    Ok(true)
+}
+
+// Whether these rows hold.
+pub fn sources_hold<L: Ledger, M: Ledger>(
+    alloc: Global,
+    steps: &mut Steps<L>,
+    applies: &mut Steps<M>,
+) -> Result<bool, OutOfMemory> {
+    Ok(
+        image_holds(alloc, SUM.as_bytes(), &SUM_ROWS, steps, applies)?
+            && faults_refused(alloc, steps, applies)?
+            && longest_holds(alloc, steps, applies)?
+            && longer_refused(alloc, steps, applies)?
+            && largest_holds(alloc, steps, applies)?,
+    )
 }

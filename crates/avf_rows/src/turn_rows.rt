@@ -1,171 +1,124 @@
 // Rows over a shelf and a sink of which one call fails: the first, the second and so on, until none of those that a command makes.
-ghost use Rattle.std.specs.Prelude.{◌≡◌, ◌<◌};
-
-use crate::rows::words;
-use avf_base::{MemShelf, MemSink, OutOfMemory, Steps, counter};
-use avf_tool::run_tool;
-use elf_fixture::{THREE, flat};
+use crate::faults::{CALM, Faults, Given, ROOM, call};
+use avf_base::{OutOfMemory, Steps};
 use std::alloc::Global;
-use std::marker::Brand;
-use std::process::Abort;
-use std::rt::Files;
-use std::sync::ledger::{Blank, Ledger};
-
-// A source of one instruction.
-const SOURCE: &str = "ecall\n";
+use std::sync::ledger::Ledger;
 
 // A map of the run of the image.
-const MAP: &str = "avf-map 1\ncycles 6\ninstructions 3\npc 0 0 6 U1\n";
-
-// For how many bytes a sink has room.
-const ROOM: u32 = 0x10_0000;
+const MAP: &[u8] = b"avf-map 1\ncycles 6\ninstructions 3\npc 0 0 6 U1\n";
 
 // More calls than any command of the rows makes.
 const MANY: u32 = 1000;
 
-// Which reads fail and which writes, and how many bytes a write takes at most.
-#[derive(Clone, Copy)]
-struct Faults<'a> {
-    reads: &'a [u32],
-    writes: &'a [u32],
-    most: u32,
-}
+// The words, how many reads they make, and how many bytes a write takes at most.
+struct Turn(&'static str, u32, u32);
 
-// What a call of the tool gave.
-#[derive(Drop)]
-struct Given {
-    status: u8,
-    out: MemSink,
-}
+static TURNS: [Turn; 14] = [
+    Turn("run a.elf 6", 2, 4),
+    Turn("dead a.elf 6", 2, 4),
+    Turn("report a.elf 6", 2, 4),
+    Turn("csv a.elf 6", 2, 4),
+    Turn("plan a.elf 6 262", 2, 4),
+    Turn("campaign a.elf 6 1 8", 2, 4),
+    Turn("due a.elf 6 both", 2, 4),
+    Turn("map a.elf 6", 2, 256),
+    Turn("check a.elf 6 a.map", 4, 4),
+    Turn("query a.elf 6 ib 32 1", 2, 4),
+    Turn("flip a.elf 100 pc 0 0", 2, 4),
+    Turn("with 1 16 1 run a.elf 6", 2, 4),
+    Turn("bench 1 1", 0, 4),
+    Turn("asm a.s", 2, 4),
+];
 
-// The words over a shelf with the flat image of three words, a source and a map.
-fn call<L: Ledger, M: Ledger>(
+// Whether the status is 3 and nothing is written where read k fails, and not so where no read has the number k.
+fn read_holds<L: Ledger, M: Ledger>(
     alloc: Global,
-    line: &str,
-    faults: &Faults<'_>,
+    turn: &Turn,
+    k: u32,
     steps: &mut Steps<L>,
     applies: &mut Steps<M>,
-) -> Result<Given, OutOfMemory>
-    requires { 0 < faults.now.most }
-{
-    let words = words(alloc, line)?;
-    let mut shelf = MemShelf::new(alloc, faults.reads)?;
-    shelf.put("a.elf", &flat(alloc, &THREE)?)?;
-    shelf.put("a.s", SOURCE.as_bytes())?;
-    shelf.put("a.map", MAP.as_bytes())?;
-    let mut out = MemSink::new(alloc, ROOM, faults.most, faults.writes)?;
-    let mut err = MemSink::new(alloc, 64, 64, &[])?;
-    let status = run_tool(
-        alloc, &words, &mut shelf, &mut out, &mut err, steps, applies,
-    );
-    Ok(Given { status, out })
-}
-
-// Fails each read in turn: so often the status is 3 and nothing is written, and then it is 0.
-fn reads_in_turn<R: Abort + AllocGlobal, L: Ledger, M: Ledger>(
-    rt: &R,
-    steps: &mut Steps<L>,
-    applies: &mut Steps<M>,
-    line: &str,
-    reads: u32,
-) {
-    for k in 1..reads.saturating_add(2) {
-        let faults = Faults {
-            reads: &[k],
-            writes: &[],
-            most: ROOM,
-        };
-        let given = call(rt.alloc(), line, &faults, steps, applies).expect(rt, "ample memory");
-        let status = if k <= reads { 3 } else { 0 };
-        assert_eq!(rt; given.status, status, "{line}: read {k}");
-        assert!(rt;
-            given.out.kept().is_empty() == (k <= reads),
-            "{line}: read {k}"
-        );
-    }
-}
-
-// Fails each write of at most so many bytes in turn: the status is 7 and what was written before is a front of the whole text, until it is 0.
-fn writes_in_turn<R: Abort + AllocGlobal, L: Ledger, M: Ledger>(
-    rt: &R,
-    steps: &mut Steps<L>,
-    applies: &mut Steps<M>,
-    line: &str,
-    most: u32,
-) {
-    assert!(rt; most > 0);
-    let calm = Faults {
-        reads: &[],
-        writes: &[],
+) -> Result<bool, OutOfMemory> {
+    let faults = Faults {
+        reads: &[k],
+        out: &[],
+        err: &[],
         most: ROOM,
     };
-    let whole = call(rt.alloc(), line, &calm, steps, applies).expect(rt, "ample memory");
-    let text = whole.out.kept();
-    for k in 1..MANY {
-        let faults = Faults {
-            reads: &[],
-            writes: &[k],
-            most,
-        };
-        let given = call(rt.alloc(), line, &faults, steps, applies).expect(rt, "ample memory");
-        let before = (k - 1).saturating_mul(most) as usize;
-        let status = if before < text.len() { 7 } else { 0 };
-        assert_eq!(rt; given.status, status, "{line}: write {k}");
-        assert_eq!(rt;
-            given.out.kept().len(),
-            before.min(text.len()),
-            "{line}: write {k}"
-        );
-        assert!(rt; text.starts_with(given.out.kept()), "{line}: write {k}");
-        if given.status == 0 {
-            return;
-        }
-    }
-    assert!(rt; false, "{line}: it makes more writes");
+    let given = call(alloc, turn.0, MAP, &faults, steps, applies)?;
+    let fails = k <= turn.1;
+    let status = if fails { 3 } else { 0 };
+    Ok(given.status == status && given.out.kept().is_empty() == fails)
 }
 
-// Rows: the words, how many reads they make, and how many bytes a write takes at most.
-fn turns<R: Abort + AllocGlobal, L: Ledger, M: Ledger>(
-    rt: &R,
+// Fails each read in turn.
+fn reads_hold<L: Ledger, M: Ledger>(
+    alloc: Global,
+    turn: &Turn,
     steps: &mut Steps<L>,
     applies: &mut Steps<M>,
-) {
-    let rows: [(&str, u32, u32); 14] = [
-        ("run a.elf 6", 2, 4),
-        ("dead a.elf 6", 2, 4),
-        ("report a.elf 6", 2, 4),
-        ("csv a.elf 6", 2, 4),
-        ("plan a.elf 6 262", 2, 4),
-        ("campaign a.elf 6 1 8", 2, 4),
-        ("due a.elf 6 both", 2, 4),
-        ("map a.elf 6", 2, 256),
-        ("check a.elf 6 a.map", 4, 4),
-        ("query a.elf 6 ib 32 1", 2, 4),
-        ("flip a.elf 100 pc 0 0", 2, 4),
-        ("with 1 16 1 run a.elf 6", 2, 4),
-        ("bench 1 1", 0, 4),
-        ("asm a.s", 2, 4),
-    ];
-    for (line, reads, most) in rows {
-        reads_in_turn(rt, steps, applies, line, reads);
-        writes_in_turn(rt, steps, applies, line, most);
+) -> Result<bool, OutOfMemory> {
+    for k in 1..turn.1.saturating_add(2) {
+        if !read_holds(alloc, turn, k, steps, applies)? {
+            return Ok(false);
+        }
     }
+    Ok(true)
 }
 
-fn all<R: Abort + AllocGlobal + Files, L: Ledger, M: Ledger>(rt: &R, one: Blank, other: Blank)
-    requires one_name { one.name ≡ L.name }
-    requires one_parts { one.parts ≡ L.parts }
-    requires one_some { 0 < L.parts }
-    requires other_name { other.name ≡ M.name }
-    requires other_parts { other.parts ≡ M.parts }
-    requires other_some { 0 < M.parts }
-{
-    let mut steps = counter::<R, L>(rt, one);
-    let mut applies = counter::<R, M>(rt, other);
-    turns(rt, &mut steps, &mut applies);
+// Whether the status is 7 and the text was written up to so many bytes, or it is 0 where there are no more.
+fn is_cut(given: &Given, text: &[u8], before: usize) -> bool {
+    let status = if before < text.len() { 7 } else { 0 };
+    let kept = given.out.kept();
+    given.status == status && kept.len() == before.min(text.len()) && text.starts_with(kept)
 }
 
-#[test]
-fn calls_that_fail_in_turn(rt: HostRuntime) {
-    all::<HostRuntime, Brand, Brand>(&rt, Blank::new(1), Blank::new(1));
+// What a call gives where write k fails.
+fn failing_write<L: Ledger, M: Ledger>(
+    alloc: Global,
+    turn: &Turn,
+    k: u32,
+    steps: &mut Steps<L>,
+    applies: &mut Steps<M>,
+) -> Result<Given, OutOfMemory> {
+    let faults = Faults {
+        reads: &[],
+        out: &[k],
+        err: &[],
+        most: turn.2,
+    };
+    call(alloc, turn.0, MAP, &faults, steps, applies)
+}
+
+// Fails each write in turn, until there are no more.
+fn writes_hold<L: Ledger, M: Ledger>(
+    alloc: Global,
+    turn: &Turn,
+    steps: &mut Steps<L>,
+    applies: &mut Steps<M>,
+) -> Result<bool, OutOfMemory> {
+    let whole = call(alloc, turn.0, MAP, &CALM, steps, applies)?;
+    let text = whole.out.kept();
+    for k in 1..MANY {
+        let before = (k - 1).saturating_mul(turn.2) as usize;
+        let given = failing_write(alloc, turn, k, steps, applies)?;
+        let is_right = is_cut(&given, text, before);
+        if !is_right || given.status == 0 {
+            return Ok(is_right);
+        }
+    }
+    Ok(false)
+}
+
+// Whether these rows hold.
+pub fn turns_hold<L: Ledger, M: Ledger>(
+    alloc: Global,
+    steps: &mut Steps<L>,
+    applies: &mut Steps<M>,
+) -> Result<bool, OutOfMemory> {
+    for turn in &TURNS {
+        if !reads_hold(alloc, turn, steps, applies)? || !writes_hold(alloc, turn, steps, applies)? {
+            return Ok(false);
+        }
+    }
+    Ok(true)
 }

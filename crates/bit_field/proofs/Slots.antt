@@ -1,11 +1,12 @@
 -- The used slots of a list of slots, and n slots with a list in front. `used` tells a used slot, and `empty` is an unused one.
-use Rattle.std.proofs.Common.{◌≡◌, ℕ, zero, suc, ◌+◌, ◌-◌, ◌<◌, ◌≤◌, Bool, true, false, List, [], ◌∷◌, ◌++◌, length, take, drop, replicate, get_or}
+use Rattle.std.proofs.Common.{◌≡◌, inl, inr, ℕ, zero, suc, ◌+◌, ◌-◌, ◌<◌, ◌≤◌, Bool, true, false, List, [], ◌∷◌, ◌++◌, length, take, drop, replicate, get_or}
 use Rattle.std.proofs.Common.{cond, refl, sym, ◌∙◌, ap, arith, append_assoc, append-nil, length-append, take-append-drop}
+use Rattle.std.proofs.lemmas.Bool.Decides.{nat_tests}
 use Rattle.std.proofs.Math.ListN.{set}
 use Rattle.std.specs.List.{All, filter}
 use Rattle.std.proofs.lemmas.List.{set_at, set_split, length-replicate}
 use Rattle.std.proofs.lemmas.List.Elements.{filter_more, filter-append, All-tail}
-use Rattle.bit_field.specs.Slots.{in_front}
+use Rattle.bit_field.specs.Slots.{in_front, Stands}
 
 -- an element put behind a list in front
 pub in_front-push : {E : Type 0} (n : ℕ) (empty : E) (es : List E) (e : E) → length es < n
@@ -97,3 +98,32 @@ used-split used slots i = ap (filter used) (sym (take-append-drop i slots)) ∙ 
 pub used-set : {E : Type 0} (used : E → Bool) (slots : List E) (i : ℕ) (y : E) → i < length slots
     → filter used (set slots i y) ≡ filter used (take i slots) ++ cond (used y) (y ∷ filter used (drop (suc i) slots)) (filter used (drop (suc i) slots))
 used-set used slots i y l = ap (filter used) (set_split slots i y l) ∙ filter-append used (take i slots) (y ∷ drop (suc i) slots)
+
+-- slots that stand: those in front of them are moved nowhere, and behind an unused one none is used
+IsStanding : {E : Type 0} → (E → Bool) → ℕ → E → Bool → List E → Type 0
+IsStanding used n empty first es = (in_front n empty (filter used es) ≡ es) × (first ≡ false → filter used es ≡ [])
+
+stands-more : {E : Type 0} (used : E → Bool) (n : ℕ) (empty e : E) (behind : Bool) (es : List E) → used empty ≡ false → Stands used empty e behind
+    → IsStanding used n empty behind es → IsStanding used (suc n) empty (used e) (e ∷ es)
+unfolding IsStanding
+stands-more {E = E} used n empty e behind es free (inl on) rest =
+    let fewer : suc n - suc (length (filter used es)) ≡ n - length (filter used es) = omega arith in
+    (rw (on, fewer) (ap (λ (xs : List E). e ∷ xs) rest.0), λ off. grind (arith, nat_tests))
+stands-more {E = E} used n empty e behind es free (inr (is, off)) rest =
+    let unused : used e ≡ false = ap used is ∙ free in
+    let none : filter used es ≡ [] = rest.1 off in
+    let whole : n - 0 ≡ n = omega arith in
+    let next : suc n - 0 ≡ suc n = omega arith in
+    let all : replicate n empty ≡ es = rw (none, whole) at rest.0 in
+    (rw (unused, none, is, next) (ap (λ (xs : List E). empty ∷ xs) all), λ h. rw unused none)
+
+-- nothing moves where each of four slots stands
+pub stands-four : {E : Type 0} (used : E → Bool) (empty a b c d : E) → used empty ≡ false → Stands used empty a (used b) → Stands used empty b (used c)
+    → Stands used empty c (used d) → Stands used empty d false → in_front 4 empty (filter used (a ∷ b ∷ c ∷ d ∷ [])) ≡ a ∷ b ∷ c ∷ d ∷ []
+unfolding IsStanding
+stands-four used empty a b c d free first second third last =
+    let none : IsStanding used 0 empty false [] = (refl, λ h. refl) in
+    let four = stands-more used 3 empty a (used b) (b ∷ c ∷ d ∷ []) free first
+    (stands-more used 2 empty b (used c) (c ∷ d ∷ []) free second
+    (stands-more used 1 empty c (used d) (d ∷ []) free third (stands-more used 0 empty d false [] free last none))) in
+    four.0

@@ -6,6 +6,8 @@
 // - layouts: the fields of a structure, and which of them holds a bit;
 // - places: the structures of the machine and the places in them;
 // - shapes: the RAM and the data cache of a machine, and the number of bits of each structure.
+//
+// Its worked rows are tests of machine_rows.
 #![tactic(auto)]
 
 mod flips;
@@ -24,6 +26,3 @@ pub use shapes::{
     RF_BITS, SB_BITS, Shape, bits_in, bits_of, is_shape, plain_shape, tag_bits,
 };
 pub use strikes::Struck;
-
-#[cfg(test)]
-mod tests;

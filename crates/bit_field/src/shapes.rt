@@ -36,7 +36,7 @@ pub const SB_BITS: u32 = 264;
 pub const PORT_BITS: u32 = 6;
 
 /// The size of the RAM and the shape of the data cache.
-#[derive(Clone, Copy, PartialEq, Eq, Debug)]
+#[derive(Clone, Copy, PartialEq, Eq)]
 pub struct Shape {
     /// RAM in MiB, 1 to 16.
     pub mib: u8,

@@ -1,18 +1,18 @@
 -- Lines of the map that are written one after the other.
-use Rattle.std.proofs.Common.{◌≡◌, ℕ, ◌+◌, ◌-◌, ◌^◌, ◌<◌, ◌≤◌, List, [], ◌∷◌, ◌++◌, length, take, Option, None, Some, IfSome, refl, sym, ap, ◌∙◌, subst, append_assoc, append-nil, arith}
-use Rattle.std.specs.Prelude.{Result, Ok, Err, OnErr}
-use Rattle.std.proofs.Math.ListN.{length-append}
-use Rattle.std.proofs.Math.Seq.{take-append-add}
-use Rattle.avf_base.specs.Causes.{Rose}
+use Rattle.std.proofs.Common.{◌≡◌, ℕ, ◌+◌, ◌-◌, ◌^◌, ◌<◌, ◌≤◌, List, [], ◌∷◌, ◌++◌, Option, None, Some, IfSome, refl, sym, ap, ◌∙◌, subst, append_assoc, append-nil, arith}
+use Rattle.std.specs.Prelude.{Result, Ok, Err, OnErr, OnOk}
+use Rattle.avf_base.specs.Buffers.{GrowsButFor}
 use Rattle.avf_base.specs.Moves.{Grows, GrowsByFront}
+use Rattle.avf_base.specs.declared.failure.Failed.{Failed}
+use Rattle.avf_base.proofs.Buffering.{But-front, But-more, But-rest, But-rest-front, Front-of, passed_all}
 use Rattle.bit_field.specs.Shapes.{IsShape}
 use Rattle.ace_class.proofs.Sizes.{bits_in_most}
 use Rattle.ace_rules.specs.Notes.{Story}
 use Rattle.class_map.specs.Bounds.{IsFurther, furthest, reach}
 use Rattle.class_map.specs.Lines.{pairs_of}
-use Rattle.class_map.specs.Maps.{AreAllNext, AreFirst, AreNext, IsNext, IsNextLine}
+use Rattle.class_map.specs.Maps.{AreAll, AreAllNext, AreFirst, AreNext, IsNext, IsNextLine}
 use Rattle.class_map.specs.Texts.{ended, head_text, lines_text, spelled}
-use Rattle.class_map.specs.Written.{IsFrontWritten, IsMapWritten, text_of}
+use Rattle.class_map.specs.Written.{IsFrontWritten, IsMapWritten, IsOnItsWay, IsTextWritten, text_of}
 use Rattle.class_map.specs.declared.map_line.MapLine.{MapLine}
 use Rattle.class_map.proofs.Reaches.{reach-most, reaches}
 
@@ -48,64 +48,74 @@ text_more story lines line =
 
 -- ---- what was taken so far
 
-grown_more : (a b c : Option (List ℕ)) (xs ys : List ℕ) → Grows a b xs → Grows b c ys → Grows a c (xs ++ ys)
-grown_more a b None xs ys p q = tt
-grown_more a None (Some z) xs ys p q = absurd q
-grown_more None (Some y) (Some z) xs ys p q = absurd p
-grown_more (Some x) (Some y) (Some z) xs ys p q = q ∙ ap (λ l. l ++ ys) p ∙ append_assoc x xs ys
-
-front_more : (a b c : Option (List ℕ)) (xs ys : List ℕ) → Grows a b xs → GrowsByFront b c ys → GrowsByFront a c (xs ++ ys)
-front_more a b c xs ys p q = (
-  length xs + q.0,
-  (let e : length (xs ++ ys) ≡ length xs + length ys = length-append xs ys in let l = q.1 in omega (arith, e, l)),
-  subst (Grows a c) (sym (take-append-add xs ys q.0)) (grown_more a b c xs (take q.0 ys) p q.2),
-)
-
--- the first lines are written, up to this one
-pub record IsSoFar (story : Story) (old new : Option (List ℕ)) (last : Option MapLine) : Type 0 where
+-- The first lines are on their way, up to this one.
+pub record IsSoFar (story : Story) (old new : Option (List ℕ)) (held : List ℕ) (last : Option MapLine) (so_far : Result (Unit {0}) Failed) : Type 0 where
   pub lines : List MapLine
   pub first : AreFirst story lines
   pub last_is : last ≡ last_of None lines
-  pub grows : Grows old new (text_of story lines)
+  pub text : IsOnItsWay old new held (text_of story lines) so_far
 
-pub headed : (story : Story) (old new : Option (List ℕ)) → Grows old new (head_text story.r.cycles story.r.instructions) → IsSoFar story old new None
-headed story old new h = record {
-  lines = [];
-  first = tt;
-  last_is = refl;
-  grows = subst (Grows old new) (sym (append-nil (head_text story.r.cycles story.r.instructions))) h;
-}
+head_way : (old new : Option (List ℕ)) (text : List ℕ) (so_far : Result (Unit {0}) Failed) → OnOk so_far (Grows old new text)
+    → OnErr so_far (GrowsByFront old new text) → IsOnItsWay old new [] text so_far
+head_way old new text (Ok done) h k = passed_all old new text h
+head_way old new text (Err failed) h k = k
 
-pub headed_front : (story : Story) (old new : Option (List ℕ)) → GrowsByFront old new (head_text story.r.cycles story.r.instructions) → IsFrontWritten story old new
-headed_front story old new h = record {
-  lines = [];
-  first = tt;
-  grows = subst (GrowsByFront old new) (sym (append-nil (head_text story.r.cycles story.r.instructions))) h;
-}
+pub headed : (story : Story) (old new : Option (List ℕ)) (held : List ℕ) (so_far : Result (Unit {0}) Failed) → held ≡ []
+    → OnOk so_far (Grows old new (head_text story.r.cycles story.r.instructions))
+    → OnErr so_far (GrowsByFront old new (head_text story.r.cycles story.r.instructions)) → IsSoFar story old new held None so_far
+headed story old new held so_far none h k =
+    let head = head_text story.r.cycles story.r.instructions in
+    let way : IsOnItsWay old new held head so_far = subst (λ (l : List ℕ). IsOnItsWay old new l head so_far) (sym none) (head_way old new head so_far h k) in
+    record {
+      lines = [];
+      first = tt;
+      last_is = refl;
+      text = subst (λ (t : List ℕ). IsOnItsWay old new held t so_far) (sym (append-nil head)) way;
+    }
 
-pub one_more : (story : Story) (old new newer : Option (List ℕ)) (last : Option MapLine) (line : MapLine) → IsSoFar story old new last → IsNextLine story last line
-    → Grows new newer (ended (spelled line)) → IsSoFar story old newer (Some line)
-one_more story old new newer last line so next h = record {
+pub one_more : (story : Story) (old new newer : Option (List ℕ)) (held end : List ℕ) (last : Option MapLine) (line : MapLine)
+    (so_far then : Result (Unit {0}) Failed) → IsSoFar story old new held last so_far → IsNextLine story last line
+    → ((text : List ℕ) → IsOnItsWay old new held text so_far → IsOnItsWay old newer end (text ++ ended (spelled line)) then)
+    → IsSoFar story old newer end (Some line) then
+one_more story old new newer held end last line so_far then so next goes = record {
   lines = so.lines ++ line ∷ [];
   first = next_more story None so.lines line so.first (subst (λ (l : Option MapLine). IsNextLine story l line) so.last_is next);
   last_is = sym (last_more None so.lines line);
-  grows = subst (Grows old newer) (sym (text_more story so.lines line)) (grown_more old new newer (text_of story so.lines) (ended (spelled line)) so.grows h);
+  text =
+      subst (λ (t : List ℕ). IsOnItsWay old newer end t then) (sym (text_more story so.lines line)) (goes (text_of story so.lines) so.text);
 }
 
-pub one_front : (story : Story) (old new newer : Option (List ℕ)) (last : Option MapLine) (line : MapLine) → IsSoFar story old new last → IsNextLine story last line
-    → GrowsByFront new newer (ended (spelled line)) → IsFrontWritten story old newer
-one_front story old new newer last line so next h = record {
-  lines = so.lines ++ line ∷ [];
-  first = next_more story None so.lines line so.first (subst (λ (l : Option MapLine). IsNextLine story l line) so.last_is next);
-  grows = subst (GrowsByFront old newer) (sym (text_more story so.lines line)) (front_more old new newer (text_of story so.lines) (ended (spelled line)) so.grows h);
-}
+-- ---- a piece more, and the end
 
-pub written : (story : Story) (old new : Option (List ℕ)) (last : Option MapLine) → IsSoFar story old new last → IsNext story last None → IsMapWritten story old new
-written story old new last so none = record {
-  lines = so.lines;
-  all = all_next story None so.lines so.first (subst (λ (l : Option MapLine). IsNext story l None) so.last_is none);
-  grows = so.grows;
-}
+-- of a piece that was added
+pub more_way : (a b c : Option (List ℕ)) (held end text piece : List ℕ) (result : Result (Unit {0}) Failed) → GrowsButFor a b held text
+    → OnOk result (GrowsButFor b c end (held ++ piece)) → OnErr result (GrowsByFront b c (held ++ piece)) → IsOnItsWay a c end (text ++ piece) result
+more_way a b c held end text piece (Ok done) so h k = But-more a b c held text end piece so h
+more_way a b c held end text piece (Err failed) so h k = But-front a b c held text piece so k
+
+-- of one that wasn't
+pub failed_way : (a b : Option (List ℕ)) (text piece : List ℕ) → GrowsByFront a b text → GrowsByFront a b (text ++ piece)
+failed_way a b text piece h = Front-of a b text piece h
+
+pub end_way : (a b c : Option (List ℕ)) (held text : List ℕ) (result : Result (Unit {0}) Failed) → GrowsButFor a b held text
+    → OnOk result (Grows b c held) → OnErr result (GrowsByFront b c held) → IsTextWritten a c text result
+end_way a b c held text (Ok done) so h k = But-rest a b c held text so h
+end_way a b c held text (Err failed) so h k = But-rest-front a b c held text so k
+
+module _ (story : Story) (old new newer : Option (List ℕ)) (held : List ℕ) (last : Option MapLine) (so_far : Result (Unit {0}) Failed)
+    (so : IsSoFar story old new held last so_far) (none : IsNext story last None) where
+  all_so_far : AreAll story so.lines
+  all_so_far = all_next story None so.lines so.first (subst (λ (l : Option MapLine). IsNext story l None) so.last_is none)
+
+  pub written : (result : Result (Unit {0}) Failed) → ((text : List ℕ) → IsOnItsWay old new held text so_far → IsTextWritten old newer text result)
+      → OnOk result (IsMapWritten story old newer)
+  written (Ok done) ends = record { lines = so.lines; all = all_so_far; grows = ends (text_of story so.lines) so.text }
+  written (Err failed) ends = tt
+
+  pub unwritten : (result : Result (Unit {0}) Failed) → ((text : List ℕ) → IsOnItsWay old new held text so_far → IsTextWritten old newer text result)
+      → OnErr result (IsFrontWritten story old newer)
+  unwritten (Ok done) ends = tt
+  unwritten (Err failed) ends = record { lines = so.lines; all = all_so_far; grows = ends (text_of story so.lines) so.text }
 
 -- ---- the lines end
 
@@ -127,10 +137,3 @@ reaches_on story before line shape next to bits tos =
     let most : reach (Some line) < furthest = reach-most (Some line) far.bit far.to in
     let some : line.from < line.to = next.is.some in
     omega (arith, on, most, some)
-
-pub rose_later : (before between now : ℕ) → before ≤ between → Rose between now → Rose before now
-rose_later before between now h r = omega arith
-
-pub on_err : {T E : Type 0} (r : Result T E) (P : Type 0) → P → OnErr r P
-on_err (Ok x) P h = tt
-on_err (Err e) P h = h

@@ -3,7 +3,7 @@ ghost use Rattle.std.specs.Prelude.{◌≡◌};
 ghost use Rattle.class_map.specs.Faults.{fault_number};
 
 /// A fault of a line of a map. Of several the first counts.
-#[derive(Clone, Copy, PartialEq, Eq, Debug)]
+#[derive(Clone, Copy)]
 pub(crate) enum Fault {
     /// It isn't the line of its place: by its words, by more than 64 bytes, or by a missing line feed.
     Misspelled,

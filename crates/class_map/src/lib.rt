@@ -7,6 +7,8 @@
 // - progress, judge: how far a file is read, and one more line of it;
 // - check, error: a file read in pieces and judged line by line;
 // - law: what holds of every map.
+//
+// Its worked rows are tests of run_rows.
 #![tactic(auto)]
 
 mod check;
@@ -27,6 +29,3 @@ pub use law::map_law;
 pub use map_line::MapLine;
 pub use next::next_line;
 pub use write::write_map;
-
-#[cfg(test)]
-mod tests;

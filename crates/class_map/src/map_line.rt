@@ -6,7 +6,7 @@ ghost use Rattle.class_map.specs.Lines as lines;
 use bit_field::{Place, Structure};
 
 /// That a bit is un-ACE in the cycles from `from` up to before `to`, by the rule of the number `rule`, 1 to 13.
-#[derive(Clone, Copy, PartialEq, Eq, Debug)]
+#[derive(Clone, Copy)]
 pub struct MapLine {
     pub place: Place,
     pub from: u32,

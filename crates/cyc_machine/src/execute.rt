@@ -1,26 +1,25 @@
 // EX: what becomes of ID/EX, and what its instruction leaves behind.
 ghost use Rattle.std.specs.Prelude.{◌≡◌, ◌<◌, ◌^◌, ℕ, Bool};
 ghost use Rattle.std.specs.Option.{ForSome};
-ghost use Rattle.pipe_latch.specs.LatchedActions.{action_of};
 ghost use Rattle.cyc_machine.specs.Pipeline as pipeline;
 
 use crate::fate::Fate;
 use elf_load::Image;
-use pipe_latch::{ExMem, Executed, Forwarded, IdEx, MemWb, execute, late, operand};
+use pipe_latch::{ExMem, Executed, Forwarded, IdEx, MemWb, bypass, execute};
 use predictor::Predictor;
-use rv_table::{is_counter, with_counter};
+use rv_table::{Action, is_counter, with_counter};
 
-// What becomes of ID/EX. `mem_goes` says whether EX/MEM leaves in this cycle.
+// What becomes of ID/EX; `m` is what EX/MEM does. `mem_goes` says whether EX/MEM leaves in this cycle.
 #[tactic(auto, unfolding(crate::specs::Pipeline::fate_of))]
-pub fn fate_of(d: &IdEx, npc: u32, m: &ExMem, w: &MemWb, mem_goes: bool) -> Fate
-    ensures { result ≡ pipeline.fate_of d.now npc (action_of m.now) w.now mem_goes }
+pub fn fate_of(d: &IdEx, npc: u32, m: &Action, w: &MemWb, mem_goes: bool) -> Fate
+    ensures { result ≡ pipeline.fate_of d.now npc m.now w.now mem_goes }
 {
     if !d.valid {
         Fate::Absent
     } else if d.pc != npc {
         Fate::Dropped
     } else if d.count == 0 && mem_goes {
-        goes_with(operand(d.rs1, d.a, m, w), operand_b(d, m, w))
+        goes_with(bypass(m, w, d.rs1, d.a), operand_b(d, m, w))
     } else {
         Fate::Stays
     }
@@ -40,13 +39,13 @@ fn goes_with(a: Forwarded, b: Forwarded) -> Fate
 
 // Operand b, for which a counter read never waits.
 #[tactic(auto, unfolding(crate::specs::Pipeline::operand_b))]
-fn operand_b(d: &IdEx, m: &ExMem, w: &MemWb) -> Forwarded
-    ensures { result ≡ pipeline.operand_b d.now (action_of m.now) w.now }
+fn operand_b(d: &IdEx, m: &Action, w: &MemWb) -> Forwarded
+    ensures { result ≡ pipeline.operand_b d.now m.now w.now }
 {
     if is_counter(&d.instruction()) {
         Forwarded::Value(0)
     } else {
-        operand(d.rs2, d.b, m, w)
+        bypass(m, w, d.rs2, d.b)
     }
 }
 

@@ -1,7 +1,7 @@
 // What becomes of the instruction in ID/EX.
 
 /// What becomes of ID/EX in a cycle.
-#[derive(Clone, Copy, Debug, PartialEq, Eq)]
+#[derive(Clone, Copy)]
 pub enum Fate {
     /// It holds no instruction.
     Absent,

@@ -113,8 +113,7 @@ fn take_and_fill(buffer: &mut InstBuf, image: &Image, pc: u32)
     requires { pc < 2 ^ 30 }
     ensures { buffer.new ≡ packed (pipeline.filled image.now pc (drop 1 (entries buffer.old))) }
 {
-    let _first = buffer.take();
-    fill(buffer, image, pc);
+    buffer.take_and_push(fetched(image, pc));
 }
 
 // Fetches one more entry where there is room.

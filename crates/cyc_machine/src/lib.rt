@@ -4,6 +4,8 @@
 // (clients, port, memory stage and store buffer; operands, execution and the predictor; decoding and fetching);
 // `registers` and `port` are the structures that belong to this crate alone; `report` is what a cycle shows; `facts` has the
 // laws.
+//
+// Its worked rows are tests of machine_rows.
 #![tactic(auto)]
 
 mod accessors;
@@ -27,6 +29,3 @@ pub use memory_stage::Served;
 pub use port::{Move, PORT_FIELDS, PortField, PortLatch};
 pub use registers::{ProgramCounter, REGISTERS, RegisterFile};
 pub use report::CycleReport;
-
-#[cfg(test)]
-mod tests;

@@ -22,7 +22,7 @@ pub const REFILL_CYCLES: u8 = 8;
 pub const WRITE_BACK_CYCLES: u8 = 16;
 
 /// Whether the instruction in EX/MEM leaves in this cycle, and the value for its register.
-#[derive(Clone, Copy, Debug, PartialEq, Eq)]
+#[derive(Clone, Copy)]
 pub struct Served {
     pub goes: bool,
     pub value: u32,

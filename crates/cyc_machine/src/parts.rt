@@ -73,7 +73,7 @@ impl Parts<'_> {
         let fate = fate_of(
             &self.decoded,
             self.npc.get(),
-            &self.executed,
+            &turn.action,
             &self.written,
             goes,
         );

@@ -6,7 +6,7 @@ use std::marker::Model;
 use store_buf::Pending;
 
 /// The port's latch.
-#[derive(Clone, Copy, Debug, PartialEq, Eq)]
+#[derive(Clone, Copy)]
 pub struct PortLatch {
     /// How many cycles its client must still wait, below 32.
     pub count: u8,
@@ -28,7 +28,7 @@ impl Model for PortLatch {
 }
 
 /// A field of the port's latch.
-#[derive(Clone, Copy, PartialEq, Eq, Debug)]
+#[derive(Clone, Copy, PartialEq, Eq)]
 pub enum PortField {
     Count,
     Owner,
@@ -111,7 +111,7 @@ impl PortLatch {
 }
 
 /// What the port does in a cycle, and with which way of the set. Words and lines are word and line addresses.
-#[derive(Clone, Copy, Debug, PartialEq, Eq)]
+#[derive(Clone, Copy)]
 pub enum Move {
     /// No client is there.
     Rests,

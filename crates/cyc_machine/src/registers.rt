@@ -7,7 +7,7 @@ use pipe_latch::MemWb;
 use std::marker::Model;
 
 /// A word address below 2^30, as `pc` and `npc` hold it.
-#[derive(Clone, Copy, Debug, PartialEq, Eq)]
+#[derive(Clone, Copy)]
 pub struct ProgramCounter {
     pub word: u32,
 }

@@ -12,7 +12,7 @@ use rv_table::Action;
 use wb_cache::{Cache, CacheEvent, EventKind};
 
 /// What is seen of one cycle.
-#[derive(Clone, Copy, Debug, PartialEq, Eq)]
+#[derive(Clone, Copy)]
 pub struct CycleReport {
     /// The byte that the program put.
     pub put: Option<u8>,

@@ -2,7 +2,7 @@
 
 /// What becomes of what an instruction does, by the reads of whole values (first-level and transitive dynamic deadness are
 /// those of Mukherjee et al., MICRO 2003).
-#[derive(Clone, Copy, Debug, PartialEq, Eq)]
+#[derive(Clone, Copy, PartialEq, Eq)]
 pub enum DeadClass {
     /// None of the others.
     Needed,

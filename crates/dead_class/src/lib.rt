@@ -5,6 +5,8 @@
 // - registers, bytes: the readers of the values in registers and in memory;
 // - judge: the class of one instruction;
 // - table: the walk back through the run and the table that it leaves.
+//
+// Its worked rows are tests of need_rows.
 #![tactic(auto)]
 
 mod bytes;
@@ -16,6 +18,3 @@ mod table;
 
 pub use class::DeadClass;
 pub use table::{DeadTable, classify};
-
-#[cfg(test)]
-mod tests;

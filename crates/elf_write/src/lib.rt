@@ -1,7 +1,7 @@
 //! Writes an ELF32 executable for RISC-V: a text part where code is, and maybe a data part.
 //!
 //! `layout` says where the parts lie in memory, `headers` has the fields of the file's headers, and `file` puts a file
-//! together. `code` puts instructions into a text part.
+//! together. `code` puts instructions into a text part. Its rows, a file byte by byte among them, are in `program_rows`.
 #![tactic(auto)]
 
 mod code;
@@ -12,6 +12,3 @@ mod layout;
 pub use code::put_op;
 pub use file::write;
 pub use layout::{DATA_BASE, DATA_ROOM, TEXT_BASE, TEXT_ROOM};
-
-#[cfg(test)]
-mod tests;

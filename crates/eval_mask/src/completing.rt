@@ -22,14 +22,14 @@ use rv_table::{
 };
 
 /// A write of a register; register 0 is none.
-#[derive(Clone, Copy, PartialEq, Eq, Debug)]
+#[derive(Clone, Copy, PartialEq, Eq)]
 pub struct Write {
     pub rd: u8,
     pub value: u32,
 }
 
 /// A store of the low bytes of a value into the aligned block of its size that holds a byte address.
-#[derive(Clone, Copy, PartialEq, Eq, Debug)]
+#[derive(Clone, Copy, PartialEq, Eq)]
 pub struct Store {
     pub kind: StoreKind,
     pub address: u32,
@@ -37,7 +37,7 @@ pub struct Store {
 }
 
 /// What one action changes.
-#[derive(Clone, Copy, PartialEq, Eq, Debug)]
+#[derive(Clone, Copy)]
 pub struct Change {
     pub write: Write,
     pub store: Option<Store>,
@@ -47,14 +47,14 @@ pub struct Change {
 }
 
 /// What the instruction in ID/EX does, and the word address that comes after it.
-#[derive(Clone, Copy, PartialEq, Eq, Debug)]
+#[derive(Clone, Copy)]
 pub struct Doing {
     pub action: Action,
     pub next: u32,
 }
 
 /// What completed instructions leave.
-#[derive(Clone, Copy, PartialEq, Eq, Debug)]
+#[derive(Clone, Copy)]
 pub struct Aftermath {
     /// The write of MEM/WB, under the others.
     pub first: Write,

@@ -22,7 +22,7 @@ use rv_isa::Arch;
 use rv_table::{Operation, alu, operation_of};
 
 /// What ID/EX reads besides its code and the numbers of registers.
-#[derive(Clone, Copy, PartialEq, Eq, Debug)]
+#[derive(Clone, Copy)]
 pub enum Input {
     A,
     B,
@@ -30,7 +30,7 @@ pub enum Input {
 }
 
 /// What is worked out once of ID/EX, for all its bits.
-#[derive(Clone, Copy, PartialEq, Eq, Debug)]
+#[derive(Clone, Copy)]
 pub struct Facts {
     pub operation: Operation,
     /// Whether what ID/EX changes is known to be needed.

@@ -23,7 +23,7 @@ use rv_table::Action;
 
 /// The logically masked bits of the latches: a bit is set exactly where flipping it leaves an outcome that agrees, for all that the
 /// run needs. Bits that no field holds, and those of fields that say where and when an instruction is, are never set.
-#[derive(Clone, Copy, PartialEq, Eq, Debug)]
+#[derive(Clone, Copy, PartialEq, Eq)]
 pub struct LatchMask {
     /// Bits 0 to 127 of ID/EX.
     pub idex_low: u128,

@@ -14,6 +14,8 @@
 // - decoded: the masks of ID/EX;
 // - latches: the masks of the latches;
 // - words: the mask of an instruction word.
+//
+// Its worked rows are tests of need_rows.
 #![tactic(auto)]
 
 mod cases;
@@ -35,6 +37,3 @@ mod written;
 
 pub use latches::{LatchMask, latch_bits};
 pub use words::word_bits;
-
-#[cfg(test)]
-mod tests;

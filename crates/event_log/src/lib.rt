@@ -7,6 +7,8 @@
 //
 // The definitions stand in specs: what a log is and which event is of which slot and byte (Events), what next concerns a byte (Nexts), and
 // whether a line is looked up (Lookups). The crates line_life and tag_dist answer them from tables.
+//
+// Its worked rows are tests of need_rows.
 #![tactic(auto)]
 
 mod cycles;
@@ -18,6 +20,3 @@ pub use cycles::CycleList;
 pub use next::Next;
 pub use order::is_event_log;
 pub use slots::{slot_count, slot_number};
-
-#[cfg(test)]
-mod tests;

@@ -1,7 +1,7 @@
 // What next concerns a byte.
 
 /// The first event from some cycle on that concerns a byte of a line slot, with its cycle.
-#[derive(Clone, Copy, PartialEq, Eq, Debug)]
+#[derive(Clone, Copy, PartialEq, Eq)]
 pub enum Next {
     /// The byte is read.
     Read(u32),

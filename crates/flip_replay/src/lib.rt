@@ -2,6 +2,8 @@
 //
 // `comparison` compares the cycles of a run with the recorded one, `replaying` gives the verdict on one flipped bit, `outlasting`
 // flips any bits and counts the instructions that are completed all the same.
+//
+// Its worked rows are tests of run_rows.
 #![tactic(auto)]
 
 mod comparison;
@@ -11,6 +13,3 @@ mod replaying;
 pub use outlasting::{Outlasted, outlast};
 pub use replaying::replay;
 pub use run_record::Verdict;
-
-#[cfg(test)]
-mod tests;

@@ -10,7 +10,7 @@ use cyc_machine::Machine;
 use std::sync::ledger::Ledger;
 
 /// How long a machine lasted.
-#[derive(Clone, Copy, Debug, PartialEq, Eq)]
+#[derive(Clone, Copy, PartialEq, Eq)]
 pub struct Outlasted {
     /// The number of cycles that it made, the ending one included.
     pub cycles: u32,

@@ -2,6 +2,8 @@
 //
 // - plan: the best set, by the counts of a run;
 // - text: it in words.
+//
+// Its worked rows are tests of run_rows.
 #![tactic(auto)]
 
 mod plan;
@@ -9,6 +11,3 @@ mod text;
 
 pub use plan::{Plan, SETS, best, is_member};
 pub use text::plan_text;
-
-#[cfg(test)]
-mod tests;

@@ -12,7 +12,7 @@ use bit_field::{Structure, bit_at};
 pub const SETS: u32 = 65_536;
 
 /// A set of structures to protect.
-#[derive(Clone, Copy, Debug, PartialEq, Eq)]
+#[derive(Clone, Copy)]
 pub struct Plan {
     /// The number of the set.
     pub set: u32,

@@ -1,6 +1,7 @@
 // The four slots of the instruction buffer.
 
-ghost use Rattle.std.specs.Prelude.{◌≡◌, ◌+◌, ◌<◌, ◌≤◌, true, [], ◌∷◌, ◌++◌, length, drop, slice_get};
+ghost use Rattle.std.specs.Prelude.{◌≡◌, ◌+◌, ◌<◌, ◌≤◌, IsTrue, true, [], ◌∷◌, ◌++◌, length, drop, slice_get};
+ghost use Rattle.bit_field.specs.Slots.{Stands};
 ghost use Rattle.inst_buf.specs.Entry.{no_entry};
 ghost use Rattle.inst_buf.specs.Buffer.{entries, packed, slot_of};
 
@@ -126,16 +127,37 @@ impl InstBuf {
         ensures rest { self.new ≡ packed (drop 1 (entries self.old)) }
     {
         let first = self.head();
+        self.drop_first();
+        first
+    }
+
+    /// Takes the first valid slot out, where there is one, and puts a valid slot behind the others.
+    pub fn take_and_push(&mut self, s: Slot)
+        requires { s.valid ≡ true }
+        ensures waiting { self.new ≡ packed (drop 1 (entries self.old) ++ s ∷ []) }
+        ensures room { length (drop 1 (entries self.old)) < SLOTS }
+    {
+        self.fits();
+        let remaining = self.len().saturating_sub(1);
+        self.drop_first();
+        self.slots[remaining as usize] = s;
+    }
+
+    // Takes the first valid slot out, where there is one.
+    fn drop_first(&mut self)
+        ensures { self.new ≡ packed (drop 1 (entries self.old)) }
+    {
         self.ripple();
         self.slots = moved_down(&self.slots);
-        first
     }
 
     /// Moves the valid slots down in their order, and empties the others.
     pub fn ripple(&mut self)
         ensures { self.new ≡ packed (entries self.old) }
     {
-        self.slots = rippled(&self.slots);
+        if !is_rippled(&self.slots) {
+            self.slots = rippled(&self.slots);
+        }
     }
 
     /// Empties every slot.
@@ -150,6 +172,25 @@ fn empty_slots() -> [Slot; SLOTS]
     ensures { result ≡ packed [] }
 {
     [empty_slot(); SLOTS]
+}
+
+// Whether the valid slots stand first and all others are empty. Only a strike makes it otherwise.
+#[tactic(auto, using(crate::proofs::Packed::standing))]
+fn is_rippled(slots: &[Slot; SLOTS]) -> bool
+    requires { length slots.now ≡ SLOTS }
+    ensures { IsTrue result → packed (entries slots.now) ≡ slots.now }
+{
+    stands(&slots[0], &slots[1])
+        && stands(&slots[1], &slots[2])
+        && stands(&slots[2], &slots[3])
+        && stands(&slots[3], &empty_slot())
+}
+
+// Whether a slot is valid, or it is empty and the one behind it isn't valid.
+fn stands(slot: &Slot, behind: &Slot) -> bool
+    ensures { IsTrue result → Stands (λ e. e.valid) no_entry slot.now behind.now.valid }
+{
+    slot.valid || (!behind.valid && *slot == empty_slot())
 }
 
 fn rippled(slots: &[Slot; SLOTS]) -> [Slot; SLOTS]

@@ -2,6 +2,8 @@
 //
 // - slots: what one slot holds, and its bits;
 // - buffer: the four slots, and what fetch and decoding do with them.
+//
+// Its worked rows are tests of machine_rows.
 #![tactic(auto)]
 
 mod buffer;
@@ -9,6 +11,3 @@ mod slots;
 
 pub use buffer::{InstBuf, SLOTS};
 pub use slots::{SLOT_BITS, SLOT_FIELDS, Slot, SlotField};
-
-#[cfg(test)]
-mod tests;

@@ -10,7 +10,7 @@ use std::marker::Model;
 pub const SLOT_BITS: u32 = 64;
 
 /// A fetched instruction, or an empty slot.
-#[derive(Clone, Copy, PartialEq, Eq, Debug)]
+#[derive(Clone, Copy, PartialEq, Eq)]
 pub struct Slot {
     /// Whether the slot holds an instruction.
     pub valid: bool,
@@ -36,7 +36,7 @@ impl Model for Slot {
 }
 
 /// A field of a slot of the instruction buffer.
-#[derive(Clone, Copy, PartialEq, Eq, Debug)]
+#[derive(Clone, Copy, PartialEq, Eq)]
 pub enum SlotField {
     Valid,
     Fault,

@@ -2,6 +2,8 @@
 //
 // - changes: the writes and fills of a line slot;
 // - life: the lists of a whole run, and what is asked of them.
+//
+// Its worked rows are tests of need_rows.
 #![tactic(auto)]
 
 mod changes;
@@ -9,6 +11,3 @@ mod life;
 
 pub use event_log::Next;
 pub use life::{Life, data_life};
-
-#[cfg(test)]
-mod tests;

@@ -9,6 +9,8 @@
 // - register_histories, byte_histories: those of all registers and bytes;
 // - pass: one instruction's step back;
 // - table: the walk and the table that it leaves.
+//
+// Its worked rows are tests of need_rows.
 #![tactic(auto)]
 
 mod byte_histories;
@@ -20,6 +22,3 @@ mod register_histories;
 mod table;
 
 pub use table::{NeedTable, need_facts, needs};
-
-#[cfg(test)]
-mod tests;

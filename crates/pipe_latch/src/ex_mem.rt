@@ -9,7 +9,7 @@ use rv_table::Action;
 use std::marker::Model;
 
 /// The latch EX/MEM: what execution asks of the memory stage.
-#[derive(Clone, Copy, PartialEq, Eq, Debug)]
+#[derive(Clone, Copy, PartialEq, Eq)]
 pub struct ExMem {
     /// Whether it holds an instruction.
     pub valid: bool,
@@ -41,7 +41,7 @@ impl Model for ExMem {
 }
 
 /// A field of EX/MEM.
-#[derive(Clone, Copy, PartialEq, Eq, Debug)]
+#[derive(Clone, Copy, PartialEq, Eq)]
 pub enum ExMemField {
     Valid,
     Kind,

@@ -11,7 +11,7 @@ use rv_table::{Action, Op, Operation, StoreKind, asked, compute, next_address, o
 
 /// What an instruction that leaves EX gives: the latch for the memory stage, the word address that comes next, and what
 /// the predictor learns, which is whether a branch or jump was taken and the word address that it went to.
-#[derive(Clone, Copy, PartialEq, Eq, Debug)]
+#[derive(Clone, Copy)]
 pub struct Executed {
     pub latch: ExMem,
     pub next: u32,

@@ -7,7 +7,7 @@ use crate::{ExMem, MemWb};
 use rv_table::Action;
 
 /// An operand in EX: its value, or that a load must be waited for.
-#[derive(Clone, Copy, Debug, PartialEq, Eq)]
+#[derive(Clone, Copy, PartialEq, Eq)]
 pub enum Forwarded {
     Value(u32),
     Wait,
@@ -24,7 +24,8 @@ pub fn operand(rs: u8, held: u32, m: &ExMem, w: &MemWb) -> Forwarded
 }
 
 #[tactic(auto, unfolding(crate::specs::Forwarding::operand, crate::specs::Forwarding::late))]
-fn bypass(m: &Action, w: &MemWb, rs: u8, held: u32) -> Forwarded
+/// The operand of register `rs` with the held value, where EX/MEM does `m`.
+pub fn bypass(m: &Action, w: &MemWb, rs: u8, held: u32) -> Forwarded
     ensures { result ≡ spec.operand m.now w.now rs held }
 {
     if rs == 0 {

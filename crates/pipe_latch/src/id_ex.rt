@@ -6,7 +6,7 @@ use rv_table::Op;
 use std::marker::Model;
 
 /// The latch ID/EX: a decoded instruction on its way into execution.
-#[derive(Clone, Copy, PartialEq, Eq, Debug)]
+#[derive(Clone, Copy, PartialEq, Eq)]
 pub struct IdEx {
     /// Whether it holds an instruction.
     pub valid: bool,
@@ -47,7 +47,7 @@ impl Model for IdEx {
 }
 
 /// A field of ID/EX.
-#[derive(Clone, Copy, PartialEq, Eq, Debug)]
+#[derive(Clone, Copy, PartialEq, Eq)]
 pub enum IdExField {
     Valid,
     Pc,

@@ -6,7 +6,7 @@ ghost use Rattle.pipe_latch.specs.LatchedActions.{kind_of, kind_number};
 use rv_table::{LoadKind, StoreKind};
 
 /// What EX/MEM asks of the memory stage.
-#[derive(Clone, Copy, PartialEq, Eq, Debug)]
+#[derive(Clone, Copy)]
 pub enum ExMemKind {
     /// To write a result into a register.
     WriteBack,

@@ -5,7 +5,7 @@ use bit_field::{Field, MEM_WB_BITS, Struck, bit_at, field_at, flip_at_u8, flip_a
 use std::marker::Model;
 
 /// The latch MEM/WB: what is written into the register file.
-#[derive(Clone, Copy, PartialEq, Eq, Debug)]
+#[derive(Clone, Copy, PartialEq, Eq)]
 pub struct MemWb {
     /// The register to write, below 32; 0 is none.
     pub rd: u8,
@@ -29,7 +29,7 @@ impl Model for MemWb {
 }
 
 /// A field of MEM/WB.
-#[derive(Clone, Copy, PartialEq, Eq, Debug)]
+#[derive(Clone, Copy, PartialEq, Eq)]
 pub enum MemWbField {
     Rd,
     Value,

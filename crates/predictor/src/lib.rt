@@ -3,6 +3,8 @@
 // - history: the two-bit counters;
 // - targets: the buffer of branch targets;
 // - tables: both together, the next address and what a branch teaches.
+//
+// Its worked rows are tests of machine_rows.
 #![tactic(auto)]
 
 mod history;
@@ -14,6 +16,3 @@ pub use tables::Predictor;
 pub use targets::{
     BRANCH_TARGET_FIELDS, BranchTarget, BranchTargetField, ENTRIES, ENTRY_BITS, Targets,
 };
-
-#[cfg(test)]
-mod tests;

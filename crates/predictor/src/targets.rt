@@ -10,7 +10,7 @@ use std::marker::Model;
 pub const ENTRY_BITS: u32 = 57;
 
 /// An entry of the branch target buffer.
-#[derive(Clone, Copy, PartialEq, Eq, Debug)]
+#[derive(Clone, Copy)]
 pub struct BranchTarget {
     /// Whether a branch was seen.
     pub valid: bool,
@@ -34,7 +34,7 @@ impl Model for BranchTarget {
 }
 
 /// A field of an entry of the branch target buffer.
-#[derive(Clone, Copy, PartialEq, Eq, Debug)]
+#[derive(Clone, Copy, PartialEq, Eq)]
 pub enum BranchTargetField {
     Valid,
     Tag,

@@ -23,7 +23,7 @@ use std::alloc::{AllocError, Global};
 use std::sync::ledger::Ledger;
 
 /// Why a run wasn't recorded.
-#[derive(Clone, Copy, Debug, PartialEq, Eq, thiserror::Error)]
+#[derive(Clone, Copy, Debug, thiserror::Error)]
 pub enum RecordError {
     /// The run hadn't ended when its budget of cycles was used up.
     #[error("no end came within the budget")]

@@ -2,7 +2,7 @@
 use Rattle.std.proofs.Common.{◌≡◌, List, [], ◌∷◌, Some, refl}
 use Rattle.rv_asm.specs.Chains.{◌>>=◌}
 use Rattle.rv_asm.specs.declared.bytes.TheConstants.{COMMA, OPEN, CLOSE}
-use Rattle.rv_asm.specs.Tokens.{Token, Word, Comma, Open, Close, behind, end, first_word, one_of, two_of, three_of, address_of}
+use Rattle.rv_asm.specs.Tokens.{Token, Word, Comma, Open, Close, behind, end, first_word, word_behind, one_of, two_of, three_of, address_of}
 
 pub one-chain : (ts : List Token) → one_of ts ≡ (do
   a ← first_word ts
@@ -14,36 +14,31 @@ one-chain _ = refl
 
 pub two-chain : (ts : List Token) → two_of ts ≡ (do
   a ← first_word ts
-  second ← behind COMMA a.1
-  b ← first_word second
+  b ← word_behind COMMA a.1
   none ← end b.1
   Some (a.0, b.0))
-unfolding two_of first_word behind end
+unfolding two_of first_word behind word_behind end
 two-chain (Word a ∷ Comma ∷ Word b ∷ []) = refl
 two-chain _ = refl
 
 pub three-chain : (ts : List Token) → three_of ts ≡ (do
   a ← first_word ts
-  second ← behind COMMA a.1
-  b ← first_word second
-  third ← behind COMMA b.1
-  c ← first_word third
+  b ← word_behind COMMA a.1
+  c ← word_behind COMMA b.1
   none ← end c.1
   Some (a.0, b.0, c.0))
-unfolding three_of first_word behind end
+unfolding three_of first_word behind word_behind end
 three-chain (Word a ∷ Comma ∷ Word b ∷ Comma ∷ Word c ∷ []) = refl
 three-chain _ = refl
 
 pub address-chain : (ts : List Token) → address_of ts ≡ (do
   a ← first_word ts
-  second ← behind COMMA a.1
-  n ← first_word second
-  third ← behind OPEN n.1
-  base ← first_word third
+  n ← word_behind COMMA a.1
+  base ← word_behind OPEN n.1
   closed ← behind CLOSE base.1
   none ← end closed
   Some (a.0, n.0, base.0))
-unfolding address_of first_word behind end
+unfolding address_of first_word behind word_behind end
 address-chain (Word a ∷ Comma ∷ Word n ∷ Open ∷ Word base ∷ Close ∷ []) = refl
 address-chain _ = refl
 

@@ -1,6 +1,7 @@
 -- The tokens of a line: words, commas, colons and parentheses. Blanks only separate them.
 use Rattle.std.specs.Prelude.{ℕ, Bool, false, ◌==◌, if◌then◌else◌, List, [], ◌∷◌, drop, Option, Some, None}
 use Rattle.std.specs.List.{prefix_len}
+use Rattle.rv_asm.specs.Chains.{◌>>=◌}
 use Rattle.rv_asm.specs.Bytes.{is_blank, is_mark, is_word_byte}
 use Rattle.rv_asm.specs.declared.bytes.TheConstants.{COMMA, COLON, OPEN, CLOSE}
 
@@ -48,6 +49,10 @@ behind mark (Colon ∷ ts) = if mark == COLON then Some ts else None
 behind mark (Open ∷ ts) = if mark == OPEN then Some ts else None
 behind mark (Close ∷ ts) = if mark == CLOSE then Some ts else None
 behind mark _ = None
+
+-- the word behind a mark
+unfoldable pub word_behind : ℕ → List Token → Option (List ℕ × List Token)
+word_behind mark ts = behind mark ts >>= first_word
 
 unfoldable pub end : List Token → Option (Unit {0})
 end [] = Some tt

@@ -6,7 +6,7 @@ use std::alloc::AllocError;
 use thiserror::Error;
 
 /// Why a source isn't assembled.
-#[derive(Clone, Copy, Debug, PartialEq, Eq, Error)]
+#[derive(Clone, Copy, Debug, Error)]
 pub enum AsmError {
     /// The first fault of the source. Line 0 is the whole source. The cause, 1 to 7, is the number of a `Fault`:
     ///

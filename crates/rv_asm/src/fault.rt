@@ -1,7 +1,7 @@
 //! What can be wrong with a source.
 
 /// What can be wrong with a line of a source, or with the whole, in the order of their numbers, 1 to 7.
-#[derive(Clone, Copy, Debug, PartialEq, Eq)]
+#[derive(Clone, Copy)]
 pub enum Fault {
     /// A byte isn't allowed.
     BadByte,

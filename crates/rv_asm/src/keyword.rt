@@ -8,7 +8,7 @@ use rv_table::{Form, row_named};
 
 /// What the first word of a statement names: an instruction of the word table, by its code, one of the further forms, or
 /// a directive.
-#[derive(Clone, Copy, Debug, PartialEq, Eq)]
+#[derive(Clone, Copy)]
 pub enum Keyword {
     Instruction(u8),
     Nop,
@@ -29,7 +29,7 @@ pub enum Keyword {
 }
 
 /// A word and what it names.
-#[derive(Clone, Copy, Debug, PartialEq, Eq)]
+#[derive(Clone, Copy)]
 pub struct NamedKeyword {
     pub name: &'static str,
     pub keyword: Keyword,

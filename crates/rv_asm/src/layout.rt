@@ -20,7 +20,7 @@ pub const SOURCE_ROOM: usize = 1_048_576;
 const LINE_SIZE: u64 = 524_288;
 
 /// Where a line stands: in which part, behind how many bytes of each.
-#[derive(Clone, Copy, Debug, PartialEq, Eq)]
+#[derive(Clone, Copy)]
 pub struct Cursor {
     pub in_data: bool,
     pub text_size: u64,
@@ -28,7 +28,7 @@ pub struct Cursor {
 }
 
 /// Where a label stands: the line that defines it, its part and its byte address.
-#[derive(Clone, Copy, Debug, PartialEq, Eq)]
+#[derive(Clone, Copy)]
 pub struct Place {
     pub line: u32,
     pub in_data: bool,

@@ -3,6 +3,8 @@
 //! A line is read from bytes to tokens, to operands, to a statement: `bytes`, `tokens`, `numbers`, `names`, `keyword`,
 //! `statement`, `line`. `layout` says where each line stands and where each label is, `search` finds the first `fault` of a
 //! source, `code` has the instructions and the bytes of each statement, and `assembler` puts the file together.
+//!
+//! Its rows, sources with their faults and their words, are in `program_rows`.
 #![tactic(auto)]
 
 mod assembler;
@@ -22,6 +24,3 @@ mod tokens;
 pub use assembler::assemble;
 pub use error::AsmError;
 pub use layout::SOURCE_ROOM;
-
-#[cfg(test)]
-mod tests;

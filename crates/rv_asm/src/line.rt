@@ -58,9 +58,13 @@ fn spoken<'s>(in_data: bool, first: &[u8], text: &'s [u8]) -> Result<Statement<'
     ensures sound { IfOk result (λ s. IsSound (shown s)) }
     ensures stands { IfOk result (λ s. spec.stands_in in_data (shown s) ≡ true) }
 {
-    let keyword = keyword_named(first).ok_or(Fault::UnknownWord)?;
-    let statement = statement_by(keyword, text).ok_or(Fault::BadForm)?;
-    placed(in_data, statement)
+    let Some(keyword) = keyword_named(first) else {
+        return Err(Fault::UnknownWord)
+    };
+    match statement_by(keyword, text) {
+        Some(statement) => placed(in_data, statement),
+        None => Err(Fault::BadForm),
+    }
 }
 
 /// Nothing, or a fault where there is a token.
@@ -94,8 +98,13 @@ fn statement_of<'s>(in_data: bool, text: &'s [u8]) -> Result<Statement<'s>, Faul
 fn before_colon(text: &[u8]) -> Option<(&[u8], &[u8])>
     ensures { option_map (λ r. (r.0.now, tokens r.1.now)) result ≡ before_colon (tokens text.now) }
 {
-    let (name, rest) = word(text)?;
-    Some((name, behind(COLON, rest)?))
+    let Some((name, rest)) = word(text) else {
+        return None
+    };
+    match behind(COLON, rest) {
+        Some(rest) => Some((name, rest)),
+        None => None,
+    }
 }
 
 #[tactic(auto, unfolding(crate::specs::Lines::without_label))]
@@ -117,12 +126,16 @@ fn with_label<'s>(in_data: bool, name: &'s [u8], text: &'s [u8]) -> Result<Line<
     ensures sound { IfOk result (λ l. IsSound (shown l.statement)) }
     ensures stands { IfOk result (λ l. spec.stands_in in_data (shown l.statement) ≡ true) }
 {
-    let name = label(name).ok_or(Fault::UnknownWord)?;
-    let statement = statement_of(in_data, text)?;
-    Ok(Line {
-        name: Some(name),
-        statement,
-    })
+    let Some(name) = label(name) else {
+        return Err(Fault::UnknownWord)
+    };
+    match statement_of(in_data, text) {
+        Ok(statement) => Ok(Line {
+            name: Some(name),
+            statement,
+        }),
+        Err(fault) => Err(fault),
+    }
 }
 
 /// A label with a colon, if there is one, and a statement, if there is one.

@@ -22,7 +22,7 @@ pub const BRANCH_REACH: u64 = 4_096;
 pub const JUMP_REACH: u64 = 1_048_576;
 
 /// A fault and its line, from 1 on.
-#[derive(Clone, Copy, Debug, PartialEq, Eq)]
+#[derive(Clone, Copy)]
 pub struct LineFault {
     pub line: u32,
     pub fault: Fault,

@@ -56,9 +56,16 @@ fn upper<'s>(code: u8, text: &'s [u8]) -> Option<Statement<'s>>
     ensures statement { option_map shown result ≡ spec.upper code (tokens text.now) }
     ensures sound { IfSome result (λ s. IsSound (shown s)) }
 {
-    let (rd, n) = two(text)?;
-    let op = Op::of_registers(code, register(rd)?, 0, 0);
-    Some(Statement::WithNumber(op, number(n)?))
+    match two(text) {
+        None => None,
+        Some((rd, n)) => match register(rd) {
+            None => None,
+            Some(rd) => match number(n) {
+                None => None,
+                Some(n) => Some(Statement::WithNumber(Op::of_registers(code, rd, 0, 0), n)),
+            },
+        },
+    }
 }
 
 /// rd, label
@@ -70,8 +77,13 @@ fn jump<'s>(code: u8, text: &'s [u8]) -> Option<Statement<'s>>
     ensures sound { IfSome result (λ s. IsSound (shown s)) }
 {
     let (rd, target) = two(text)?;
-    let op = Op::of_registers(code, register(rd)?, 0, 0);
-    Some(Statement::WithLabel(op, label(target)?))
+    match (register(rd), label(target)) {
+        (Some(rd), Some(target)) => Some(Statement::WithLabel(
+            Op::of_registers(code, rd, 0, 0),
+            target,
+        )),
+        _ => None,
+    }
 }
 
 /// rd, rs1, n
@@ -83,8 +95,12 @@ fn immediate<'s>(code: u8, text: &'s [u8]) -> Option<Statement<'s>>
     ensures sound { IfSome result (λ s. IsSound (shown s)) }
 {
     let (rd, rs1, n) = three(text)?;
-    let op = Op::of_registers(code, register(rd)?, register(rs1)?, 0);
-    Some(Statement::WithNumber(op, number(n)?))
+    match (register(rd), register(rs1), number(n)) {
+        (Some(rd), Some(rs1), Some(n)) => {
+            Some(Statement::WithNumber(Op::of_registers(code, rd, rs1, 0), n))
+        }
+        _ => None,
+    }
 }
 
 /// rd, n(rs1)
@@ -96,10 +112,12 @@ fn load<'s>(code: u8, text: &'s [u8]) -> Option<Statement<'s>>
     ensures sound { IfSome result (λ s. IsSound (shown s)) }
 {
     let (rd, n, rs1) = address(text)?;
-    let rd = register(rd)?;
-    let n = number(n)?;
-    let rs1 = register(rs1)?;
-    Some(Statement::WithNumber(Op::of_registers(code, rd, rs1, 0), n))
+    match (register(rd), number(n), register(rs1)) {
+        (Some(rd), Some(n), Some(rs1)) => {
+            Some(Statement::WithNumber(Op::of_registers(code, rd, rs1, 0), n))
+        }
+        _ => None,
+    }
 }
 
 /// rs2, n(rs1)
@@ -111,10 +129,12 @@ fn store<'s>(code: u8, text: &'s [u8]) -> Option<Statement<'s>>
     ensures sound { IfSome result (λ s. IsSound (shown s)) }
 {
     let (rs2, n, rs1) = address(text)?;
-    let rs2 = register(rs2)?;
-    let n = number(n)?;
-    let rs1 = register(rs1)?;
-    Some(Statement::WithNumber(Op::of_registers(code, 0, rs1, rs2), n))
+    match (register(rs2), number(n), register(rs1)) {
+        (Some(rs2), Some(n), Some(rs1)) => {
+            Some(Statement::WithNumber(Op::of_registers(code, 0, rs1, rs2), n))
+        }
+        _ => None,
+    }
 }
 
 /// rs1, rs2, label
@@ -125,9 +145,19 @@ fn branch<'s>(code: u8, text: &'s [u8]) -> Option<Statement<'s>>
     ensures statement { option_map shown result ≡ spec.branch code (tokens text.now) }
     ensures sound { IfSome result (λ s. IsSound (shown s)) }
 {
-    let (rs1, rs2, target) = three(text)?;
-    let op = Op::of_registers(code, 0, register(rs1)?, register(rs2)?);
-    Some(Statement::WithLabel(op, label(target)?))
+    let Some((rs1, rs2, target)) = three(text) else {
+        return None
+    };
+    let Some(rs1) = register(rs1) else {
+        return None
+    };
+    let Some(rs2) = register(rs2) else {
+        return None
+    };
+    let Some(target) = label(target) else {
+        return None
+    };
+    Some(Statement::WithLabel(Op::of_registers(code, 0, rs1, rs2), target))
 }
 
 /// rd, rs1, rs2
@@ -139,8 +169,12 @@ fn registers<'s>(code: u8, text: &'s [u8]) -> Option<Statement<'s>>
     ensures sound { IfSome result (λ s. IsSound (shown s)) }
 {
     let (rd, rs1, rs2) = three(text)?;
-    let op = Op::of_registers(code, register(rd)?, register(rs1)?, register(rs2)?);
-    Some(Statement::Ready(op))
+    match (register(rd), register(rs1), register(rs2)) {
+        (Some(rd), Some(rs1), Some(rs2)) => Some(Statement::Ready(Op::of_registers(
+            code, rd, rs1, rs2,
+        ))),
+        _ => None,
+    }
 }
 
 /// No operands.
@@ -205,8 +239,10 @@ fn move_register<'s>(text: &'s [u8]) -> Option<Statement<'s>>
     ensures sound { IfSome result (λ s. IsSound (shown s)) }
 {
     let (rd, rs) = two(text)?;
-    let op = Op::of_registers(codes::ADDI, register(rd)?, register(rs)?, 0);
-    Some(Statement::Ready(op))
+    match (register(rd), register(rs)) {
+        (Some(rd), Some(rs)) => Some(Statement::Ready(Op::of_registers(codes::ADDI, rd, rs, 0))),
+        _ => None,
+    }
 }
 
 /// label, with the return address in rd
@@ -238,8 +274,12 @@ fn branch_zero<'s>(code: u8, text: &'s [u8]) -> Option<Statement<'s>>
     ensures sound { IfSome result (λ s. IsSound (shown s)) }
 {
     let (rs, target) = two(text)?;
-    let rs = register(rs)?;
-    Some(Statement::WithLabel(Op::of_registers(code, 0, rs, 0), label(target)?))
+    match (register(rs), label(target)) {
+        (Some(rs), Some(target)) => {
+            Some(Statement::WithLabel(Op::of_registers(code, 0, rs, 0), target))
+        }
+        _ => None,
+    }
 }
 
 /// rd, n
@@ -249,8 +289,10 @@ fn load_immediate<'s>(text: &'s [u8]) -> Option<Statement<'s>>
     ensures sound { IfSome result (λ s. IsSound (shown s)) }
 {
     let (rd, n) = two(text)?;
-    let rd = register(rd)?;
-    Some(Statement::NumberInto(rd, number(n)?))
+    match (register(rd), number(n)) {
+        (Some(rd), Some(n)) => Some(Statement::NumberInto(rd, n)),
+        _ => None,
+    }
 }
 
 /// rd, label
@@ -260,8 +302,10 @@ fn load_address<'s>(text: &'s [u8]) -> Option<Statement<'s>>
     ensures sound { IfSome result (λ s. IsSound (shown s)) }
 {
     let (rd, target) = two(text)?;
-    let rd = register(rd)?;
-    Some(Statement::AddressInto(rd, label(target)?))
+    match (register(rd), label(target)) {
+        (Some(rd), Some(target)) => Some(Statement::AddressInto(rd, target)),
+        _ => None,
+    }
 }
 
 /// n

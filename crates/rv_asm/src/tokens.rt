@@ -60,6 +60,18 @@ pub fn behind(mark: u8, text: &[u8]) -> Option<&[u8]>
     }
 }
 
+/// The word behind a mark that the text begins with, and the text behind it.
+#[tactic(auto, unfolding(crate::specs::Tokens::word_behind))]
+fn word_behind(mark: u8, text: &[u8]) -> Option<(&[u8], &[u8])>
+    requires { IsTrue (is_mark mark) }
+    ensures { option_map (λ r. (r.0.now, spec.tokens r.1.now)) result ≡ spec.word_behind mark (spec.tokens text.now) }
+{
+    match behind(mark, text) {
+        Some(text) => word(text),
+        None => None,
+    }
+}
+
 /// Nothing, where the text has no token.
 pub fn end(text: &[u8]) -> Option<()>
     ensures { result ≡ spec.end (spec.tokens text.now) }
@@ -83,10 +95,16 @@ pub fn one(text: &[u8]) -> Option<&[u8]>
 pub fn two(text: &[u8]) -> Option<(&[u8], &[u8])>
     ensures { option_map (λ r. (r.0.now, r.1.now)) result ≡ spec.two_of (spec.tokens text.now) }
 {
-    let (first, text) = word(text)?;
-    let (second, text) = word(behind(COMMA, text)?)?;
-    end(text)?;
-    Some((first, second))
+    let Some((first, text)) = word(text) else {
+        return None
+    };
+    let Some((second, text)) = word_behind(COMMA, text) else {
+        return None
+    };
+    match end(text) {
+        Some(()) => Some((first, second)),
+        None => None,
+    }
 }
 
 /// Three words with commas between them, where the text is that.
@@ -94,11 +112,19 @@ pub fn two(text: &[u8]) -> Option<(&[u8], &[u8])>
 pub fn three(text: &[u8]) -> Option<(&[u8], &[u8], &[u8])>
     ensures { option_map (λ r. (r.0.now, r.1.now, r.2.now)) result ≡ spec.three_of (spec.tokens text.now) }
 {
-    let (first, text) = word(text)?;
-    let (second, text) = word(behind(COMMA, text)?)?;
-    let (third, text) = word(behind(COMMA, text)?)?;
-    end(text)?;
-    Some((first, second, third))
+    let Some((first, text)) = word(text) else {
+        return None
+    };
+    let Some((second, text)) = word_behind(COMMA, text) else {
+        return None
+    };
+    let Some((third, text)) = word_behind(COMMA, text) else {
+        return None
+    };
+    match end(text) {
+        Some(()) => Some((first, second, third)),
+        None => None,
+    }
 }
 
 /// A word, a comma, and an address, which is a word and a base in parentheses, where the text is that.
@@ -106,9 +132,20 @@ pub fn three(text: &[u8]) -> Option<(&[u8], &[u8], &[u8])>
 pub fn address(text: &[u8]) -> Option<(&[u8], &[u8], &[u8])>
     ensures { option_map (λ r. (r.0.now, r.1.now, r.2.now)) result ≡ spec.address_of (spec.tokens text.now) }
 {
-    let (first, text) = word(text)?;
-    let (offset, text) = word(behind(COMMA, text)?)?;
-    let (base, text) = word(behind(OPEN, text)?)?;
-    end(behind(CLOSE, text)?)?;
-    Some((first, offset, base))
+    let Some((first, text)) = word(text) else {
+        return None
+    };
+    let Some((offset, text)) = word_behind(COMMA, text) else {
+        return None
+    };
+    let Some((base, text)) = word_behind(OPEN, text) else {
+        return None
+    };
+    let Some(text) = behind(CLOSE, text) else {
+        return None
+    };
+    match end(text) {
+        Some(()) => Some((first, offset, base)),
+        None => None,
+    }
 }

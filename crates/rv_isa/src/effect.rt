@@ -10,7 +10,7 @@ use avf_base::End;
 use rv_table::{Action, Op};
 
 /// What one instruction does. Addresses are byte addresses.
-#[derive(Clone, Copy, Debug, PartialEq, Eq)]
+#[derive(Clone, Copy)]
 pub struct Effect {
     /// The address of the instruction that comes next; after an end the instruction's own address plus 4.
     pub next: u32,
@@ -29,7 +29,7 @@ pub struct Effect {
 }
 
 /// An instruction of a run.
-#[derive(Clone, Copy, Debug, PartialEq, Eq)]
+#[derive(Clone, Copy)]
 pub struct Retired {
     /// Its byte address.
     pub pc: u32,

@@ -1,4 +1,5 @@
-// The instruction set's run: the architectural state, one instruction, and the trace of an image.
+// The instruction set's run: the architectural state, one instruction, and the trace of an image. Its worked rows are in
+// `program_rows`.
 #![tactic(auto)]
 
 pub mod arch;
@@ -12,6 +13,3 @@ pub use effect::{Effect, Retired, access_law, byte_put, end_of, written_register
 pub use error::IsaError;
 pub use runs::{run, run_clocked, words_law};
 pub use trace::Trace;
-
-#[cfg(test)]
-mod tests;

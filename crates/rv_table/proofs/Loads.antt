@@ -60,3 +60,19 @@ same_word Lhu x p h = let e = eqb-true (p / 2) (x / 2) h in omega arith
 -- a load reads its word alone
 pub loaded-word : (kind : LoadKind) (x : ℕ) (memory : ℕ → ℕ) → ((q : ℕ) → memory q < 2 ^ 8) → loaded kind x memory ≡ loaded kind x (λ p. byte_of (word_at x memory) (p % 4))
 loaded-word kind x memory bytes = loaded-same kind x memory (λ p. byte_of (word_at x memory) (p % 4)) (λ p h. sym (byte_of-word_at x p memory bytes (same_word kind x p h)))
+
+-- the half of a word that a load takes
+half_by : (x w r : ℕ) → r < 2 → x / 2 % 2 ≡ r → w / 2 ^ (16 * r) % 65536 ≡ w / 2 ^ (8 * (x / 2 * 2 % 4)) % 2 ^ 8 + 2 ^ 8 * (w / 2 ^ (8 * ((x / 2 * 2 + 1) % 4)) % 2 ^ 8)
+half_by x w zero h e =
+    let low : x / 2 * 2 % 4 ≡ 0 = omega arith in
+    let high : (x / 2 * 2 + 1) % 4 ≡ 1 = omega arith in
+    rw (low, high) (omega arith)
+half_by x w (suc zero) h e =
+    let low : x / 2 * 2 % 4 ≡ 2 = omega arith in
+    let high : (x / 2 * 2 + 1) % 4 ≡ 3 = omega arith in
+    rw (low, high) (omega arith)
+half_by x w (suc (suc r)) h e = absurd (omega arith)
+
+pub half_in_word : (x w : ℕ) → w / 2 ^ (16 * (x / 2 % 2)) % 65536 ≡ half_at x (λ p. byte_of w (p % 4))
+unfolding byte_of
+half_in_word x w = half_by x w (x / 2 % 2) (mod_below (x / 2) 2 (lit< tt)) refl

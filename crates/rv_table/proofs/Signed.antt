@@ -1,5 +1,5 @@
 -- Signed shifts and products as numbers of 32 and 64 bits.
-use Rattle.std.proofs.Common.{◌≡◌, ℕ, suc, ◌+◌, ◌-◌, ◌*◌, ◌/◌, ◌%◌, ◌^◌, ◌<◌, ◌≤◌, ℤ, pos, negsuc, ◌*ℤ◌, FitsSigned, arith, ap, sym, ◌∙◌, w32, w64, lit<, refl, Bool, true, false, nat_lt, cond, pow-add, lt_of_le_of_lt}
+use Rattle.std.proofs.Common.{◌≡◌, ℕ, suc, subst, ◌+◌, ◌-◌, ◌*◌, ◌/◌, ◌%◌, ◌^◌, ◌<◌, ◌≤◌, ℤ, pos, negsuc, ◌*ℤ◌, FitsSigned, arith, ap, sym, ◌∙◌, w32, w64, lit<, refl, Bool, true, false, nat_lt, cond, pow-add, lt_of_le_of_lt}
 use Rattle.std.proofs.Math.Nat.{pow-le-pow_right}
 use Rattle.std.proofs.Math.Facts.{sfits_to_z, sfits_widen}
 use Rattle.std.proofs.lemmas.Nat.{div-mul-add, div_below, div-add-mod', mod_below, pow_pos}
@@ -47,6 +47,29 @@ product_bits a b fa fb x y ex ey =
     let fy : cast_signed w64 (cast_unsigned w64 y) ≡ signed b = ap (λ z. cast_signed w64 (cast_unsigned w64 z)) ey ∙ widened b fb in
     ap (λ z. cast_unsigned w64 (cast_signed w64 (cast_unsigned w64 z))) (ap (λ z. z *ℤ cast_signed w64 (cast_unsigned w64 y)) fx ∙ ap (λ z. signed a *ℤ z) fy)
     ∙ ap (cast_unsigned w64) (to_z-of_z w64 (signed a *ℤ signed b) (product_fits a b fa fb))
+
+-- the product of a signed and an unsigned number
+word_fits : (b : ℕ) → b < 2 ^ 32 → FitsSigned w64 (pos b)
+word_fits b fb = record { sfits = omega (arith, fb) }
+
+mixed_fits : (a b : ℕ) → a < 2 ^ 32 → b < 2 ^ 32 → FitsSigned w64 (signed a *ℤ pos b)
+mixed_fits a b fa fb =
+    fits_signed_mul w64 (signed a) (pos b) (2 ^ 31) (2 ^ 32 - 1)
+    (nat_abs-le (signed a) (signed_fits a fa).sfits) (omega (arith, fb)) (lit< tt)
+
+mixed_widened : (a b : ℕ) → a < 2 ^ 32 → b < 2 ^ 32 → (x y : ℤ) → x ≡ signed a → y ≡ pos b → cast_signed w64 (cast_unsigned w64 x) *ℤ cast_signed w64 (cast_unsigned w64 y) ≡ signed a *ℤ pos b
+mixed_widened a b fa fb x y ex ey =
+    let fx : cast_signed w64 (cast_unsigned w64 x) ≡ signed a = ap (λ z. cast_signed w64 (cast_unsigned w64 z)) ex ∙ widened a fa in
+    let fy : cast_signed w64 (cast_unsigned w64 y) ≡ pos b = ap (λ z. cast_signed w64 (cast_unsigned w64 z)) ey ∙ to_z-of_z w64 (pos b) (word_fits b fb) in
+    ap (λ z. z *ℤ cast_signed w64 (cast_unsigned w64 y)) fx ∙ ap (λ z. signed a *ℤ z) fy
+
+pub mixed_in_range : (a b : ℕ) → a < 2 ^ 32 → b < 2 ^ 32 → (x y : ℤ) → x ≡ signed a → y ≡ pos b → FitsSigned w64 (cast_signed w64 (cast_unsigned w64 x) *ℤ cast_signed w64 (cast_unsigned w64 y))
+mixed_in_range a b fa fb x y ex ey = subst (FitsSigned w64) (sym (mixed_widened a b fa fb x y ex ey)) (mixed_fits a b fa fb)
+
+pub mixed_bits : (a b : ℕ) → a < 2 ^ 32 → b < 2 ^ 32 → (x y : ℤ) → x ≡ signed a → y ≡ pos b → cast_unsigned w64 (cast_signed w64 (cast_unsigned w64 (cast_signed w64 (cast_unsigned w64 x) *ℤ cast_signed w64 (cast_unsigned w64 y)))) ≡ cast_unsigned w64 (signed a *ℤ pos b)
+mixed_bits a b fa fb x y ex ey =
+    ap (λ z. cast_unsigned w64 (cast_signed w64 (cast_unsigned w64 z))) (mixed_widened a b fa fb x y ex ey)
+    ∙ ap (cast_unsigned w64) (to_z-of_z w64 (signed a *ℤ pos b) (mixed_fits a b fa fb))
 
 -- a shift to the right by n is a division by m, where m * q is 2 ^ 32; by the sign
 shift_by : (t : Bool) (a m q : ℕ) → 0 < m → q * m ≡ 2 ^ 32 → q ≤ 2 ^ 32 → a < 2 ^ 32 → cast_unsigned w32 (shr_z (sel t (pos a) (negsuc (2 ^ 32 - suc a))) m) ≡ cond t (a / m) (a / m + (2 ^ 32 - q))

@@ -38,7 +38,7 @@ pub enum Action {
 }
 
 /// An access to memory: its byte address, how many bytes (1, 2 or 4), and whether it writes them.
-#[derive(Clone, Copy, Debug, PartialEq, Eq)]
+#[derive(Clone, Copy)]
 pub struct Access {
     pub address: u32,
     pub size: u32,

@@ -6,7 +6,7 @@ use crate::{Op, Operation, alu, holds, operation_of};
 
 /// What an instruction computes. `value` is the result or the byte address accessed, 0 where there is neither;
 /// `target` is the byte address where a taken branch or jump goes, aligned or not, and the address plus 4 for all else.
-#[derive(Clone, Copy, Debug, PartialEq, Eq)]
+#[derive(Clone, Copy)]
 pub struct Computed {
     pub value: u32,
     pub target: u32,

@@ -6,7 +6,7 @@ ghost use Rattle.rv_table.specs.Words.{immediate_b, immediate_i, immediate_j, im
 use crate::Op;
 
 /// Which fields an instruction has (the RISC-V specification's formats, and those of single rows).
-#[derive(Clone, Copy, Debug, PartialEq, Eq)]
+#[derive(Clone, Copy, PartialEq, Eq)]
 pub enum Form {
     /// rd and the upper 20 bits of the immediate.
     U,

@@ -5,7 +5,7 @@
 // does and `op` is a decoded one. `form` has the forms of the words, `decoding` leads from a word to the operation,
 // `encoding` back, and `spelling` is the assembler's text. `trap` names the traps.
 // `arithmetic` and `execution` compute results and targets, `action` is what an instruction does besides going on,
-// and `access` which bytes of memory that concerns.
+// and `access` which bytes of memory that concerns. Rows from the specification are in `program_rows`.
 #![tactic(auto)]
 
 mod access;
@@ -38,6 +38,3 @@ pub use row::{
     operation_of, row_named, row_of, table_law,
 };
 pub use spelling::{OutOfMemory, register_name, text};
-
-#[cfg(test)]
-mod tests;

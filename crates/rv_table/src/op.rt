@@ -10,7 +10,7 @@ pub const FETCH_FAULT_CODE: u8 = 1;
 
 /// A decoded instruction: its code (`row_of` gives its row in the table), registers and immediate. A field that the
 /// form doesn't have is 0; an immediate is sign-extended to 32 bits (two's complement).
-#[derive(Clone, Copy, Debug, PartialEq, Eq)]
+#[derive(Clone, Copy)]
 pub struct Op {
     pub code: u8,
     pub rd: u8,

@@ -25,7 +25,7 @@ use crate::{Form, Operation, codes};
 
 /// The bits of a word that say which instruction it is: opcode, funct3 and funct7 as far as they are given, all bits, or all but
 /// those of rd (the RISC-V specification's fields).
-#[derive(Clone, Copy, Debug, PartialEq, Eq)]
+#[derive(Clone, Copy)]
 pub enum Pattern {
     /// No word has it.
     NoWord,
@@ -68,7 +68,7 @@ pub const MULTIPLY_DELAY: u8 = 2;
 pub const DIVIDE_DELAY: u8 = 15;
 
 /// What the table tells of an instruction.
-#[derive(Clone, Copy, Debug, PartialEq, Eq)]
+#[derive(Clone, Copy)]
 pub struct InstructionRow {
     /// Its number, from 0 on in the order of the table.
     pub code: u8,

@@ -8,7 +8,7 @@ use change_list::{Change, ChangeList};
 use wb_cache::{CacheEvent, EventKind};
 
 /// What a line slot holds. A line is a byte address divided by 16.
-#[derive(Clone, Copy, PartialEq, Eq, Debug)]
+#[derive(Clone, Copy, PartialEq, Eq)]
 pub enum Held {
     /// No line.
     Vacant,

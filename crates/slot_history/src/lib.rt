@@ -3,6 +3,8 @@
 // - changes: what a slot holds, and the changes of one slot;
 // - table: the changes of every slot, and what is asked of them;
 // - laws: what the events tell is what the machine's cache holds.
+//
+// Its worked rows are tests of need_rows.
 #![tactic(auto)]
 
 mod changes;
@@ -12,6 +14,3 @@ mod table;
 pub use changes::Held;
 pub use laws::held_law;
 pub use table::{SlotTable, slot_table};
-
-#[cfg(test)]
-mod tests;

@@ -1,8 +1,9 @@
 // The store buffer.
 
-ghost use Rattle.std.specs.Prelude.{◌≡◌, ◌<◌, ℕ, ◌∷◌, [], ◌++◌, length, drop};
+ghost use Rattle.std.specs.Prelude.{◌≡◌, ◌<◌, ℕ, IsTrue, false, ◌∷◌, [], ◌++◌, length, drop};
+ghost use Rattle.bit_field.specs.Slots.{Stands};
 ghost use Rattle.store_buf.specs.Entry.{no_entry};
-ghost use Rattle.store_buf.specs.Pending.{pending, packed, slot_of, oldest, younger};
+ghost use Rattle.store_buf.specs.Pending.{is_pending, pending, packed, slot_of, oldest, younger};
 ghost use Rattle.store_buf.specs.Covers.{found, is_found, is_missing, all_found, none_found, byte_found, word_found, covered};
 
 use crate::cover::Cover;
@@ -118,7 +119,8 @@ impl StoreBuf {
         ensures left { self.new ≡ packed (younger (pending self.old)) }
     {
         let taken = self.oldest();
-        self.slots = moved_down(&in_front(&self.slots));
+        self.ripple();
+        self.slots = moved_down(&self.slots);
         taken
     }
 
@@ -130,7 +132,7 @@ impl StoreBuf {
         ensures { self.new ≡ packed (pending self.old ++ p ∷ []) }
     {
         let count = self.len();
-        self.slots = in_front(&self.slots);
+        self.ripple();
         self.slots[count as usize] = p;
     }
 
@@ -138,7 +140,9 @@ impl StoreBuf {
     pub fn ripple(&mut self)
         ensures { self.new ≡ packed (pending self.old) }
     {
-        self.slots = in_front(&self.slots);
+        if !is_in_front(&self.slots) {
+            self.slots = in_front(&self.slots);
+        }
     }
 
     /// What the pending stores hold of the lanes of the word at a word address; `lanes` is a mask from 1 to 15.
@@ -236,6 +240,25 @@ fn free_slots() -> [Pending; SLOTS]
     ensures { result ≡ packed [] }
 {
     [free_slot(); SLOTS]
+}
+
+// Whether the pending stores stand in the first slots and all others are free. Only a strike makes it otherwise.
+#[tactic(auto, using(crate::proofs::Packed::standing))]
+fn is_in_front(slots: &[Pending; SLOTS]) -> bool
+    requires { length slots.now ≡ SLOTS }
+    ensures { IsTrue result → packed (pending slots.now) ≡ slots.now }
+{
+    stands(&slots[0], &slots[1])
+        && stands(&slots[1], &slots[2])
+        && stands(&slots[2], &slots[3])
+        && stands(&slots[3], &free_slot())
+}
+
+// Whether a slot holds a store, or it is free and the one behind it holds none.
+fn stands(slot: &Pending, behind: &Pending) -> bool
+    ensures { IsTrue result → Stands is_pending no_entry slot.now (is_pending behind.now) }
+{
+    slot.mask != 0 || (behind.mask == 0 && *slot == free_slot())
 }
 
 // The pending stores moved to the first slots, in their order.

@@ -6,6 +6,8 @@
 //
 // A strike may leave any bits in the slots. A slot whose mask isn't 0 holds a pending store, whatever its other bits are,
 // and the pending stores are those slots in their order.
+//
+// Its worked rows are tests of machine_rows.
 #![tactic(auto)]
 
 mod buffer;
@@ -15,6 +17,3 @@ mod pending;
 pub use buffer::{SLOTS, StoreBuf};
 pub use cover::Cover;
 pub use pending::{PENDING_BITS, PENDING_FIELDS, Pending, PendingField};
-
-#[cfg(test)]
-mod tests;

@@ -11,7 +11,7 @@ use std::marker::Model;
 pub const PENDING_BITS: u32 = 66;
 
 /// A store to one word that waits for the cache; with mask 0 a free slot.
-#[derive(Clone, Copy, PartialEq, Eq, Debug)]
+#[derive(Clone, Copy, PartialEq, Eq)]
 pub struct Pending {
     /// Bit `l` says that byte lane `l` is written; below 16.
     pub mask: u8,
@@ -35,7 +35,7 @@ impl Model for Pending {
 }
 
 /// A field of a slot of the store buffer.
-#[derive(Clone, Copy, PartialEq, Eq, Debug)]
+#[derive(Clone, Copy, PartialEq, Eq)]
 pub enum PendingField {
     Mask,
     Addr,

@@ -5,6 +5,8 @@
 // - outcome: what became of a strike, and how many there were of each kind;
 // - striking: the strikes of a seed on a recorded run, judged and counted;
 // - text: a campaign in words.
+//
+// Its worked rows are tests of run_rows.
 #![tactic(auto)]
 
 mod outcome;
@@ -18,6 +20,3 @@ pub use places::{all_bits, place_at};
 pub use strikes::{Strike, draw_strike};
 pub use striking::{MOST_STRIKES, campaign};
 pub use text::campaign_text;
-
-#[cfg(test)]
-mod tests;

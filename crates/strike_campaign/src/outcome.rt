@@ -7,7 +7,7 @@ use ace_class::Class;
 use run_record::Verdict;
 
 /// A strike, the class of its bit in its cycle, and the verdict on the run with that bit flipped before that cycle.
-#[derive(Clone, Copy, Debug, PartialEq, Eq)]
+#[derive(Clone, Copy)]
 pub struct Outcome {
     pub strike: Strike,
     pub class: Class,
@@ -15,7 +15,7 @@ pub struct Outcome {
 }
 
 /// How many strikes there were of each kind, by the class of the bit in that cycle and by the verdict on the run.
-#[derive(Clone, Copy, Debug, PartialEq, Eq)]
+#[derive(Clone, Copy)]
 pub struct Cells {
     /// On bits that are un-ACE: output and end are the recorded ones.
     pub unace_same: u32,

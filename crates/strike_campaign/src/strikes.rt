@@ -10,7 +10,7 @@ use rand_pcg::Lcg64Xsh32;
 use run_record::Recorded;
 
 /// A flip of the bit at a place before a cycle of a run.
-#[derive(Clone, Copy, Debug, PartialEq, Eq)]
+#[derive(Clone, Copy)]
 pub struct Strike {
     /// A bit of the machine.
     pub place: Place,

@@ -5,6 +5,8 @@
 // - accesses: the last instruction that accesses each line;
 // - lookups: the cycles in which each line is asked for, and those in which each slot is filled;
 // - table: both for a whole run, and what is asked of them.
+//
+// Its worked rows are tests of need_rows.
 #![tactic(auto)]
 
 mod accesses;
@@ -14,6 +16,3 @@ mod table;
 
 pub use distance::distance_one;
 pub use table::{TagTable, tag_table};
-
-#[cfg(test)]
-mod tests;

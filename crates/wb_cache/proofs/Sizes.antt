@@ -16,6 +16,13 @@ slots_most_by sets ways p q = grind arith
 pub slots_most : (s : Shape) → IsShape s → slot_count s ≤ 512
 slots_most s shape = slots_most_by s.sets s.ways shape.sets shape.ways
 
+nodes_most_by : (sets ways : ℕ) → (sets ≡ 16) ⊎ (sets ≡ 32) ⊎ (sets ≡ 64) ⊎ (sets ≡ 128) → (ways ≡ 1) ⊎ (ways ≡ 2) ⊎ (ways ≡ 4) → sets * (ways - 1) ≤ 512
+nodes_most_by sets ways p q = grind arith
+
+-- the nodes of all sets
+pub nodes_most : (s : Shape) → IsShape s → s.sets * (s.ways - 1) ≤ 512
+nodes_most s shape = nodes_most_by s.sets s.ways shape.sets shape.ways
+
 line_below_by : (sets set tag : ℕ) → (sets ≡ 16) ⊎ (sets ≡ 32) ⊎ (sets ≡ 64) ⊎ (sets ≡ 128) → set < sets → tag < 2 ^ (28 - index_bits sets)
     → sets * tag + set < 2 ^ 28
 line_below_by sets set tag p h l = grind arith

@@ -1,5 +1,5 @@
 -- What a write and a refill do, byte by byte. A byte is named by its address; where the cache holds its line, it gives the byte.
-use Rattle.std.specs.Prelude.{◌≡◌, ◌≢◌, ℕ, ◌/◌, ◌%◌, ◌==◌, ◌&&◌, Bool, true, cond, List, Option, Some}
+use Rattle.std.specs.Prelude.{◌≡◌, ◌≢◌, ℕ, ◌/◌, ◌%◌, ◌==◌, ◌&&◌, Bool, true, cond, List, Some}
 use Rattle.std.specs.Option.{option_map}
 use Rattle.bit_field.specs.Lanes.{has_lane, lane_byte}
 use Rattle.elf_load.specs.Image.{LoadedImage, ram_byte}

@@ -14,7 +14,7 @@ pub enum EventKind {
 }
 
 /// An event of the cache in a cycle.
-#[derive(Clone, Copy, PartialEq, Eq, Debug)]
+#[derive(Clone, Copy)]
 pub struct CacheEvent {
     /// The cycle, counted from 0.
     pub cycle: u32,

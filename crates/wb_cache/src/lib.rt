@@ -7,6 +7,8 @@
 //
 // A strike may leave any bits in the arrays: two valid ways may hold one line, and any tag may stand in any set. Each call is
 // defined on all of these contents. Memory is taken when a cache is made, and never after.
+//
+// Its worked rows are tests of machine_rows.
 #![tactic(auto)]
 
 mod arrays;
@@ -17,6 +19,3 @@ mod nodes;
 pub use arrays::{Flags, LineData, LineTags};
 pub use cache::Cache;
 pub use event::{CacheEvent, EventKind};
-
-#[cfg(test)]
-mod tests;

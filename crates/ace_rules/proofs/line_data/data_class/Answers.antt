@@ -1,9 +1,6 @@
 use Rattle.std.proofs.Common.{arith, refl, subst, sym}
 use Rattle.bit_field.specs.declared.places.Structure.TheVariants.{CData}
-use Rattle.event_log.specs.declared.next.Next.{Next}
 use Rattle.ace_law.specs.Classes.{IsClass}
-use Rattle.ace_rules.specs.LineData as line_data
-use Rattle.ace_rules.specs.LineData.{AreDataTables}
 use Rattle.ace_rules.specs.Notes.{moment}
 use Rattle.ace_rules.proofs.LineDataClass.{data-class, lines-below, next-fits, notes-counted}
 use Rattle.ace_rules.proofs.line_data.data_class.Goals as goal

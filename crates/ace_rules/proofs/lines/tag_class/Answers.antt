@@ -1,5 +1,6 @@
 use Rattle.std.proofs.Common.{◌/◌, ◌%◌, ℕ, ap, subst, sym, ◌∙◌}
 use Rattle.bit_field.specs.declared.places.Structure.TheVariants.{CTag}
+use Rattle.bit_field.specs.Shapes.{IsShape}
 use Rattle.slot_history.specs.Histories.{held_in}
 use Rattle.slot_history.specs.declared.changes.Held.{Held}
 use Rattle.ace_law.specs.Classes.{IsClass}
@@ -25,3 +26,9 @@ returns c a table known tables =
     (held_in c.args.slots.now (c.args.bit / w) c.args.cycle)) c.tag_bits-width.ensures))
     (tag-class-at a table c.args.note.now c.args.quiet known c.args.shape.now c.args.tags.now
     c.args.slots.now c.args.cycle tables c.args.bit c.requires.bit)
+
+pub tag_bits-width-requires : goal.tag_bits-width-requires
+tag_bits-width-requires c = subst IsShape (sym c.requires.some.tables.shape) c.requires.some.known.told.recorded.fits
+
+pub tag_class_of-requires-clause-shape : goal.tag_class_of-requires-clause-shape
+tag_class_of-requires-clause-shape c = subst IsShape (sym c.requires.some.tables.shape) c.requires.some.known.told.recorded.fits

@@ -2,29 +2,22 @@ use Rattle.std.proofs.Common.{◌<◌, ◌^◌, Option, None, subst, arith}
 use Rattle.bit_field.specs.Shapes.{IsShape}
 use Rattle.run_record.specs.Run.{RecordedRun}
 use Rattle.class_map.specs.Maps.{IsNext, IsNextLine}
-use Rattle.class_map.specs.Written.{IsFrontWritten}
 use Rattle.class_map.specs.declared.map_line.MapLine.{MapLine}
-use Rattle.class_map.proofs.MapsWritten.{headed, is_further, on_err, one_front, one_more, reaches_on, written}
+use Rattle.class_map.proofs.MapsWritten.{headed, is_further, one_more, reaches_on, unwritten, written}
 use Rattle.class_map.proofs.write.write_map.Goals as goal
 
 pub loop-line-init : goal.loop-line-init
 loop-line-init g c = record {
   shape = subst (λ (r : RecordedRun). IsShape r.shape) c.recorded.ensures c.is_record.ensures.record.fits;
   short = subst (λ (r : RecordedRun). r.cycles < 2 ^ 32) c.recorded.ensures (omega (arith, c.is_record.ensures.short));
-  so_far = headed c.args.a.now (g.K.Sink.taken c.args.out.now) (g.K.Sink.taken c.write_head.new.out) c.in_ok-write_head.ensures.ok;
+  so_far =
+      headed c.args.a.now (g.K.Sink.taken c.args.out.now) (g.K.Sink.taken c.write_head-so_far.new.out) c.new-buffer.result c.write_head-so_far.result c.new-buffer.ensures
+      c.write_head-so_far.ensures.ok c.write_head-so_far.ensures.err;
   is = tt;
   bit = tt;
   to = tt;
-  faults = c.write_head.ensures.cause.later;
+  cause = c.write_head-so_far.ensures.cause;
 }
-
-pub returns-in_err-write_line-clause-err : goal.returns-in_err-write_line-clause-err
-returns-in_err-write_line-clause-err g c =
-    let next : IsNextLine c.args.a.now c.loop-line.last c.in-Some.line =
-    subst (λ (b : Option MapLine). IsNextLine c.args.a.now b c.in-Some.line) c.as_ref.ensures.value c.in-Some.ensures in
-    on_err c.from_residual-in_err-write_line.result (IsFrontWritten c.args.a.now (g.K.Sink.taken c.args.out.now) (g.K.Sink.taken c.write_line.new.out))
-    (one_front c.args.a.now (g.K.Sink.taken c.args.out.now) (g.K.Sink.taken c.loop-line.out) (g.K.Sink.taken c.write_line.new.out) c.loop-line.last c.in-Some.line
-    c.loop-line.invariant.so_far next c.in_err-write_line.ensures.err)
 
 pub loop-line-smaller : goal.loop-line-smaller
 loop-line-smaller g c =
@@ -41,15 +34,26 @@ loop-line-preserved g c =
       shape = c.loop-line.invariant.shape;
       short = c.loop-line.invariant.short;
       so_far =
-          one_more c.args.a.now (g.K.Sink.taken c.args.out.now) (g.K.Sink.taken c.loop-line.out) (g.K.Sink.taken c.write_line.new.out) c.loop-line.last c.in-Some.line
-          c.loop-line.invariant.so_far next c.in_ok-write_line.ensures.ok;
+          one_more c.args.a.now (g.K.Sink.taken c.args.out.now) (g.K.Sink.taken c.loop-line.out) (g.K.Sink.taken c.add_line-so_far.new.out) c.loop-line.buffer
+          c.add_line-so_far.new.buffer c.loop-line.last c.in-Some.line c.loop-line.so_far c.add_line-so_far.result c.loop-line.invariant.so_far next
+          (c.add_line-so_far.ensures.way (g.K.Sink.taken c.args.out.now));
       is = next.is;
       bit = (is_further c.args.a.now c.loop-line.last c.in-Some.line c.loop-line.invariant.shape next small).bit;
       to = small;
-      faults = omega (arith, c.write_line.ensures.cause.later, c.loop-line.invariant.faults);
+      cause = c.add_line-so_far.ensures.cause (g.K.Sink.faults c.args.out.now) c.loop-line.invariant.cause;
     }
 
 pub returns-clause-ok : goal.returns-clause-ok
 returns-clause-ok g c =
-    written c.args.a.now (g.K.Sink.taken c.args.out.now) (g.K.Sink.taken c.loop-line.out) c.loop-line.last c.loop-line.invariant.so_far
-    (subst (λ (b : Option MapLine). IsNext c.args.a.now b None) c.as_ref.ensures.value c.in_default.ensures)
+    written c.args.a.now (g.K.Sink.taken c.args.out.now) (g.K.Sink.taken c.loop-line.out) (g.K.Sink.taken c.end_text.new.out) c.loop-line.buffer c.loop-line.last
+    c.loop-line.so_far c.loop-line.invariant.so_far (subst (λ (b : Option MapLine). IsNext c.args.a.now b None) c.as_ref.ensures.value c.in_default.ensures)
+    c.end_text.result (c.end_text.ensures.written (g.K.Sink.taken c.args.out.now))
+
+pub returns-clause-err : goal.returns-clause-err
+returns-clause-err g c =
+    unwritten c.args.a.now (g.K.Sink.taken c.args.out.now) (g.K.Sink.taken c.loop-line.out) (g.K.Sink.taken c.end_text.new.out) c.loop-line.buffer c.loop-line.last
+    c.loop-line.so_far c.loop-line.invariant.so_far (subst (λ (b : Option MapLine). IsNext c.args.a.now b None) c.as_ref.ensures.value c.in_default.ensures)
+    c.end_text.result (c.end_text.ensures.written (g.K.Sink.taken c.args.out.now))
+
+pub returns-clause-cause : goal.returns-clause-cause
+returns-clause-cause g c = c.end_text.ensures.cause (g.K.Sink.faults c.args.out.now) c.loop-line.invariant.cause

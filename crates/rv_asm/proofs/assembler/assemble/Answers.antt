@@ -9,6 +9,7 @@ use Rattle.rv_asm.specs.Lines.{lines}
 use Rattle.rv_asm.specs.Program.{entry_in, ops_in}
 use Rattle.rv_asm.specs.Sources.{data_part, entry, has_bad_size, program, text_part}
 use Rattle.rv_asm.specs.declared.fault.Fault.{Fault}
+use Rattle.rv_asm.specs.declared.layout.Cursor.{Cursor}
 use Rattle.rv_asm.specs.declared.layout.Place.{Place}
 use Rattle.rv_asm.proofs.Assembled.{AreRoomy, IsEntry, bad_size, entry_well, finished, no_fault, on_line, roomy, too_long}
 use Rattle.rv_asm.proofs.assembler.assemble.Goals as goal
@@ -66,3 +67,10 @@ returns c =
     (c.entry-entry.ensures ∙ ap entry_in places) written (c.deref-2.ensures.value ∙ c.in_ok-parts.ensures.contents)
     c.in_ok-write.ensures.file (c.in_ok-write.ensures.loads some) coded well in
     (no_fault source c.if-source-gt-SOURCE_ROOM.false none good, all.0, all.1)
+
+pub write-requires-clause-data_room : goal.write-requires-clause-data_room
+write-requires-clause-data_room c =
+    let roomy_end : AreRoomy c.in_ok-layout.layout.end = roomy c.in_ok-layout.layout.end (sym c.if-has_bad_size.ensures) in
+    let size : length c.in_ok-parts.parts.data_part.items ≡ c.in_ok-layout.layout.end.data_size =
+    c.in_ok-parts.ensures.data_size ∙ ap (λ (end : Cursor). end.data_size) (sym c.in_ok-layout.ensures.end) in
+    rw (c.deref-2.ensures.value, size) roomy_end.data_room

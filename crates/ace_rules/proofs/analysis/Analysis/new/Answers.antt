@@ -27,15 +27,24 @@ pub returns-clause-applies : goal.returns-clause-applies
 returns-clause-applies g c =
     omega (arith, c.note_run.ensures.applies, c.trace_of.ensures.ticks, c.in_ok-trace.ensures.count)
 
+pub data_life-requires-clause-shape : goal.data_life-requires-clause-shape
+data_life-requires-clause-shape g c = rw c.shape-shape.ensures c.is_record.ensures.record.fits
+
 pub data_life-requires-clause-events : goal.data_life-requires-clause-events
 data_life-requires-clause-events g c =
     rw (c.shape-shape.ensures, c.events-events.ensures)
     (event_log c.args.recorded (rw (← c.image.ensures) c.is_image.ensures) c.is_record.ensures.record)
 
+pub tag_table-requires-clause-shape : goal.tag_table-requires-clause-shape
+tag_table-requires-clause-shape g c = rw c.shape-shape.ensures c.is_record.ensures.record.fits
+
 pub tag_table-requires-clause-events : goal.tag_table-requires-clause-events
 tag_table-requires-clause-events g c =
     rw (c.shape-shape.ensures, c.events-events.ensures)
     (event_log c.args.recorded (rw (← c.image.ensures) c.is_image.ensures) c.is_record.ensures.record)
+
+pub slot_table-requires-clause-shape : goal.slot_table-requires-clause-shape
+slot_table-requires-clause-shape g c = rw c.shape-shape.ensures c.is_record.ensures.record.fits
 
 pub slot_table-requires-clause-events : goal.slot_table-requires-clause-events
 slot_table-requires-clause-events g c =

@@ -1,7 +1,17 @@
 use Rattle.std.proofs.Common.{arith, ap, length, ◌∙◌}
 use Rattle.std.proofs.lemmas.List.{length-replicate}
 use Rattle.wb_cache.specs.Tags.{TagArray}
+use Rattle.wb_cache.proofs.Sizes.{nodes_most, slots_most}
 use Rattle.wb_cache.proofs.cache.Cache.shaped.Goals as goal
+
+pub cleared-requires : goal.cleared-requires
+cleared-requires c = rw (c.from.ensures, c.from-2.ensures) (slots_most c.args.shape.now c.requires)
+
+pub cleared-requires-2 : goal.cleared-requires-2
+cleared-requires-2 c = rw (c.from.ensures, c.from-2.ensures) (slots_most c.args.shape.now c.requires)
+
+pub cleared-requires-3 : goal.cleared-requires-3
+cleared-requires-3 c = rw (c.from-3.ensures, c.from-4.ensures) (nodes_most c.args.shape.now c.requires)
 
 pub invariant_of-result : goal.invariant_of-result
 invariant_of-result c = (

@@ -1,4 +1,0 @@
-use Rattle.run_log.proofs.tests.worked_rows_are_recorded.Given as goal
-
-abbrev pub ghosts-check_all : goal.ghosts-check_all
-ghosts-check_all g a = record { name = a.blank.name; parts = a.blank.parts }
